@@ -1,0 +1,19 @@
+-- Under the bit patterns, abs and the casts: `Patterns` to `Double`. Under the square root's code: `Steps` to `Sqrt`. Its meaning: `Halfway` to `Meaning`.
+pub mod Numbers
+pub mod Patterns
+pub mod Bounds
+pub mod Sign
+pub mod Saturating
+pub mod Integral
+pub mod Double
+pub mod Steps
+pub mod Isqrt
+pub mod Closest
+pub mod Rounded
+pub mod Units
+pub mod Written
+pub mod Fields
+pub mod Sqrt
+pub mod Halfway
+pub mod Range
+pub mod Meaning

@@ -1,0 +1,19 @@
+-- Document 01, "Sine and cosine have no body here": a table of 360 sines, one for each whole degree, and the cosine as the sine 90 degrees on.
+-- A degree counts modulo 360. Definitions only. Assumes nothing.
+use Prim.Native.Nat.{ℕ, _+_, _%_}
+use mathlib.Core.List.{List, map}
+use lib.ListN.{getD}
+use lib.Ieee.{Float, nan, binary32, ofBits}
+use Rattle.sines.specs.Table.{patterns}
+
+-- the table
+unfoldable pub sines : List Float
+sines = map (ofBits binary32) patterns
+
+unfoldable pub sineOf : ℕ → Float
+unfolding sines
+sineOf degree = getD sines (degree % 360) nan
+
+-- "cosine is the sine 90° on"
+abbrev pub cosineOf : ℕ → Float
+cosineOf degree = sineOf (degree + 90)

@@ -1,0 +1,134 @@
+//! Reads a crop on standard input and prints what the source answers.
+
+use std::process::ExitCode;
+
+const HELP: &str = "usage: judge [--full] < CROP
+Prints the answer and counts, then one line for each kept record.
+--full   prints also all record words up to kept, a line each, and the marks, in hex
+--help   prints this";
+
+fn main() -> ExitCode {
+    let arguments: Vec<String> = std::env::args().skip(1).collect();
+    match arguments.iter().map(String::as_str).collect::<Vec<_>>()[..] {
+        [] => judge::run(false),
+        ["--full"] => judge::run(true),
+        ["--help"] => {
+            println!("{HELP}");
+            ExitCode::SUCCESS
+        }
+        _ => {
+            eprintln!("{HELP}");
+            ExitCode::from(2)
+        }
+    }
+}
+
+#[cfg(not(source))]
+mod judge {
+    use std::process::ExitCode;
+
+    /// Without the source there is nothing to run.
+    pub fn run(_: bool) -> ExitCode {
+        eprintln!(
+            "judge: built without the source; set ORACLE_SOURCE to its folder and build again"
+        );
+        ExitCode::FAILURE
+    }
+}
+
+#[cfg(source)]
+mod judge {
+    use oracle::{RECORD_WORDS, Report, crop, harness};
+    use std::fmt::{LowerHex, Write as _};
+    use std::io::{Read, Write, stdin, stdout};
+    use std::process::ExitCode;
+
+    /// Records that the program holds.
+    const RECORDS: usize = 400;
+
+    /// Searches standard input and prints.
+    pub fn run(full: bool) -> ExitCode {
+        let mut file = Vec::new();
+        if let Err(error) = stdin().read_to_end(&mut file) {
+            eprintln!("judge: {error}");
+            return ExitCode::FAILURE;
+        }
+        match stdout().write_all(lines(&file, full).as_bytes()) {
+            Ok(()) => ExitCode::SUCCESS,
+            Err(_) => ExitCode::FAILURE,
+        }
+    }
+
+    /// All that is printed for a file.
+    fn lines(file: &[u8], full: bool) -> String {
+        let length = match harness::check(file) {
+            0 => {
+                crop::dimensions(file).map_or(0, |(width, height)| crop::image_words(width, height))
+            }
+            _ => 0,
+        };
+        let (mut words, mut marks) = (vec![0; length], vec![0; length]);
+        let mut buffer = vec![0; RECORD_WORDS * RECORDS];
+        let report = harness::search_file(file, &mut words, &mut buffer, &mut marks);
+        let records = &buffer[..RECORD_WORDS * report.kept as usize];
+        let mut text = first_line(report);
+        for record in records.chunks_exact(RECORD_WORDS) {
+            text += &record_line(record);
+        }
+        if full {
+            for record in records.chunks_exact(RECORD_WORDS) {
+                text += &hex_line(record, 8);
+            }
+            text += &hex_line(&marks, 16);
+        }
+        text
+    }
+
+    /// Answer and counts.
+    fn first_line(report: Report) -> String {
+        let Report {
+            answer,
+            found,
+            kept,
+            marked,
+        } = report;
+        format!("answer {answer} found {found} kept {kept} marked {marked}\n")
+    }
+
+    /// Centre, radius, outcome, scale, rotation and class in decimal, variance and corners in hex.
+    fn record_line(record: &[u32]) -> String {
+        let rotation = f32::from_bits(record[28]);
+        let mut line = String::new();
+        for word in [record[0], record[1], record[2], record[26], record[27]] {
+            let _ = write!(line, "{word} ");
+        }
+        let _ = write!(line, "{rotation} {} {:08x} ", record[39], record[25]);
+        line + &hex_line(&record[31..39], 8)
+    }
+
+    /// Words in hex with so many digits, parted by spaces.
+    fn hex_line<T: LowerHex>(words: &[T], digits: usize) -> String {
+        let words: Vec<String> = (words.iter())
+            .map(|word| format!("{word:0digits$x}"))
+            .collect();
+        words.join(" ") + "\n"
+    }
+
+    #[cfg(test)]
+    mod tests {
+        use super::lines;
+
+        #[test]
+        fn sample_line() {
+            let mut file = vec![0x10, 0x21, 0x02, 0x10];
+            file.resize(4 + 165, 0);
+            let text = lines(&file, false);
+            assert_eq!(text, "answer 8 found 0 kept 0 marked 242\n");
+        }
+
+        #[test]
+        fn refused_file() {
+            assert_eq!(lines(&[], false), "answer 1 found 0 kept 0 marked 0\n");
+        }
+    }
+}

@@ -1,0 +1,129 @@
+//! Puts deliberate slips into the second reading, one at a time, and says how many stored vectors notice each.
+//!
+//! usage: mutate [LABEL ..]    (from the package's folder; writes below target/slips)
+
+use std::fs;
+use std::path::{Path, PathBuf};
+use std::process::{Command, Stdio};
+use std::time::{Duration, Instant};
+
+/// A slip: its label, the text in src/second.rs (tests aside), which occurs once, and what stands there instead.
+struct Slip {
+    label: String,
+    old: String,
+    new: String,
+}
+
+fn main() {
+    let wanted: Vec<String> = std::env::args().skip(1).collect();
+    let second = fs::read_to_string("src/second.rs").expect("src/second.rs");
+    let second = second
+        .split("#[cfg(test)]")
+        .next()
+        .unwrap_or_default()
+        .to_string();
+    let slips = slips(&fs::read_to_string("slips.txt").expect("slips.txt"));
+    println!("| Slip | Vectors that notice it |\n|---|---|");
+    let mut unseen = 0;
+    for slip in slips
+        .iter()
+        .filter(|s| wanted.is_empty() || wanted.contains(&s.label))
+    {
+        let times = second.matches(&slip.old).count();
+        assert_eq!(times, 1, "{}: its text occurs {times} times", slip.label);
+        let verdict = tried(&slip.label, &second.replacen(&slip.old, &slip.new, 1));
+        unseen += (verdict == "0") as usize;
+        println!("| {} | {verdict} |", slip.label);
+    }
+    println!("\n{} slips, {unseen} unnoticed", slips.len());
+}
+
+/// The slips of the text: a line `== LABEL`, then lines that start with `-` (old) and `+` (new).
+fn slips(text: &str) -> Vec<Slip> {
+    let mut all: Vec<Slip> = Vec::new();
+    for line in text.lines() {
+        if let Some(label) = line.strip_prefix("== ") {
+            let label = label.to_string();
+            all.push(Slip {
+                label,
+                old: String::new(),
+                new: String::new(),
+            });
+        } else if let (Some(slip), Some(kind)) = (all.last_mut(), line.chars().next()) {
+            let side = if kind == '-' {
+                &mut slip.old
+            } else {
+                &mut slip.new
+            };
+            if !side.is_empty() {
+                side.push('\n');
+            }
+            side.push_str(&line[1..]);
+        }
+    }
+    all
+}
+
+/// How many vectors notice the changed reading; one that panics or does not end is noticed too.
+fn tried(label: &str, second: &str) -> String {
+    let folder = PathBuf::from("target/slips").join(label.replace(' ', "_"));
+    fs::create_dir_all(&folder).unwrap();
+    fs::write(folder.join("second.rs"), second).unwrap();
+    fs::write(folder.join("main.rs"), MAIN).unwrap();
+    let built = Command::new("rustc")
+        .args(["--edition", "2024", "-O", "-A", "warnings", "-o"])
+        .arg(folder.join("main"))
+        .arg(folder.join("main.rs"))
+        .output()
+        .expect("rustc");
+    assert!(
+        built.status.success(),
+        "{label}: {}",
+        String::from_utf8_lossy(&built.stderr)
+    );
+    outcome(&folder)
+}
+
+fn outcome(folder: &Path) -> String {
+    let out = fs::File::create(folder.join("out")).unwrap();
+    let mut child = Command::new(folder.join("main"))
+        .stdout(out)
+        .stderr(Stdio::null())
+        .spawn()
+        .unwrap();
+    let start = Instant::now();
+    loop {
+        if let Some(status) = child.try_wait().unwrap() {
+            let count = fs::read_to_string(folder.join("out")).unwrap();
+            return if status.success() {
+                count.trim().to_string()
+            } else {
+                "it panics".to_string()
+            };
+        }
+        if start.elapsed() > Duration::from_secs(20) {
+            child.kill().unwrap();
+            child.wait().unwrap();
+            return "it does not end".to_string();
+        }
+        std::thread::sleep(Duration::from_millis(20));
+    }
+}
+
+/// A program of the changed reading alone: it counts the vectors that notice.
+const MAIN: &str = r#"
+#[path = "../../../src/report.rs"]
+mod report;
+pub use report::{MOST_CANDIDATES, RECORD_WORDS, Report};
+mod second;
+#[path = "../../../src/vectors.rs"]
+mod vectors;
+
+fn main() {
+    let pack = std::fs::read("../vectors/vectors.bin").unwrap();
+    let notices = |v: &vectors::Vector| {
+        std::panic::catch_unwind(|| v.replay(second::search_file)).map_or(true, |r| r.is_err())
+    };
+    println!("{}", vectors::read(&pack).iter().filter(|v| notices(v)).count());
+}
+"#;

@@ -1,0 +1,272 @@
+//! Chooses the stored vectors: for each row of the coverage table the smallest crop that hits it, some of every family,
+//! damaged files for each refusal, and the crops of a folder (Zint's symbols).
+//!
+//! usage: vectors OUT [--seeds N] [FOLDER]
+
+#[cfg(not(source))]
+fn main() {
+    eprintln!("vectors: the source's text is not here, so nothing can say what is expected");
+    std::process::exit(1);
+}
+
+#[cfg(source)]
+fn main() {
+    let mut seeds = 40_000;
+    let mut paths = Vec::new();
+    let mut arguments = std::env::args().skip(1);
+    while let Some(word) = arguments.next() {
+        match word.as_str() {
+            "--seeds" => {
+                seeds = arguments
+                    .next()
+                    .and_then(|n| n.parse().ok())
+                    .expect("a number")
+            }
+            _ => paths.push(word),
+        }
+    }
+    let Some(out) = paths.first() else {
+        eprintln!("usage: vectors OUT [--seeds N] [FOLDER]");
+        std::process::exit(2);
+    };
+    let chosen = choose::all(seeds, paths.get(1).map(std::path::Path::new));
+    std::fs::write(out, oracle::vectors::write(&chosen)).expect("the pack is written");
+    print!("{}", choose::coverage(&chosen).table());
+    println!("{} vectors", chosen.len());
+}
+
+#[cfg(source)]
+mod choose {
+    use std::collections::BTreeMap;
+    use std::path::Path;
+
+    use oracle::generate::{self, Coverage, Crop};
+    use oracle::harness::{self, search_file};
+    use oracle::vectors::{Vector, words_of};
+
+    /// How many crops of a family are kept beside the smallest for each row, and how many files for each refusal.
+    const OF_A_FAMILY: usize = 16;
+    const OF_A_REFUSAL: usize = 8;
+
+    pub fn all(seeds: u64, folder: Option<&Path>) -> Vec<Vector> {
+        let mut chosen = sample();
+        chosen.extend(near_pairs());
+        chosen.extend(header_alone());
+        chosen.extend(smallest(seeds));
+        chosen.extend(refused());
+        chosen.extend(lengths_refused());
+        chosen.extend(folder.map(stored_crops).unwrap_or_default());
+        chosen
+    }
+
+    pub fn coverage(vectors: &[Vector]) -> Coverage {
+        let mut coverage = Coverage::default();
+        for v in vectors {
+            coverage.add(v.report.answer, v.report.found, v.report.kept, &v.records);
+        }
+        coverage
+    }
+
+    /// Document 01's sample.
+    fn sample() -> Vec<Vector> {
+        let mut file = vec![0x10, 0x21, 0x02, 0x10];
+        file.resize(169, 0);
+        vec![Vector::made("sample", &file, [33, 16_000, 33], search_file)]
+    }
+
+    /// A crop whose black pixels are those where `black` holds.
+    fn painted(width: u32, height: u32, black: impl Fn(u32, u32) -> bool) -> Crop {
+        let row_words = width.div_ceil(64);
+        let mut words = vec![0; (row_words * height) as usize];
+        for (y, x) in (0..height).flat_map(|y| (0..width).map(move |x| (y, x))) {
+            words[(y * row_words + x / 64) as usize] |= u64::from(black(x, y)) << (x % 64);
+        }
+        Crop {
+            family: "painted",
+            width,
+            height,
+            words,
+            capacity_words: 16_000,
+        }
+    }
+
+    /// A single-pixel eye about (cx, cy): a cross of eleven runs in the row and in the column.
+    fn eye(x: u32, y: u32, cx: u32, cy: u32) -> bool {
+        let along = |a: u32, b: u32| a.abs_diff(b) <= 5 && a.abs_diff(b) % 2 == 1;
+        (y == cy && along(x, cx)) || (x == cx && along(y, cy))
+    }
+
+    /// Document 01's cases that are images, the four eyes of which none is kept, and more than 1,024 candidates.
+    fn near_pairs() -> Vec<Vector> {
+        let row = |from: u32| {
+            painted(33, 33, move |x, y| {
+                y == 6 && (from..from + 11).contains(&x) && (x - from) % 2 == 0
+            })
+        };
+        let eyes = [(12, 24), (36, 24), (24, 12), (24, 36)];
+        let four = painted(49, 49, |x, y| {
+            eyes.iter().any(|&(cx, cy)| eye(x, y, cx, cy))
+        });
+        let border = painted(49, 49, |x, y| eye(x, y, 36, 24));
+        let board = painted(200, 220, |x, y| (x + y) % 2 == 0);
+        vec![
+            made("runs from 15", &row(15), 16_000),
+            made("runs from 16", &row(16), 16_000),
+            made("four eyes", &four, 16_000),
+            made("four eyes, room for 4", &four, 160),
+            made("four eyes, room for 3", &four, 159),
+            made("eye at the right border", &border, 16_000),
+            made("board, 1,024 records", &board, 40_960),
+            made("board, 2,000 records", &board, 80_000),
+        ]
+    }
+
+    /// Headers at the edges of numbers 2 and 3, with no rows: number 4 where the dimensions pass.
+    fn header_alone() -> Vec<Vector> {
+        let sides = [
+            (33, 33),
+            (32, 33),
+            (33, 32),
+            (2048, 33),
+            (2049, 33),
+            (33, 2048),
+            (33, 2049),
+            (512, 1000),
+            (576, 889),
+        ];
+        let vector = |&(w, h): &(u32, u32)| {
+            let file = (1 << 28 | w << 16 | h << 4 as u32).to_be_bytes();
+            Vector::made(&format!("header {w} {h}"), &file, [1, 40, 1], search_file)
+        };
+        sides.iter().map(vector).collect()
+    }
+
+    fn made(name: &str, crop: &Crop, records_len: usize) -> Vector {
+        let n = crop.words.len();
+        Vector::made(name, &crop.file(), [n, records_len, n], search_file)
+    }
+
+    /// The rows of the coverage table that a vector hits, and its family with its answer.
+    fn rows(crop: &Crop, v: &Vector) -> Vec<String> {
+        let answer = v.report.answer;
+        let mut rows = vec![format!("{} {answer}", crop.family)];
+        rows.push(format!(
+            "answer {answer} found {}",
+            (v.report.found > 0) as u32
+        ));
+        for record in v.records.chunks_exact(oracle::RECORD_WORDS) {
+            rows.push(format!("outcome {} scale {}", record[26], record[27]));
+            rows.push(format!("outcome {} class {}", record[26], record[39]));
+            rows.push(format!(
+                "outcome {} degree {}",
+                record[26],
+                f32::from_bits(record[28])
+            ));
+        }
+        rows
+    }
+
+    /// The smallest crop for each row, and the first few of each family.
+    fn smallest(seeds: u64) -> Vec<Vector> {
+        let mut best: BTreeMap<String, (usize, u64)> = BTreeMap::new();
+        let mut taken: BTreeMap<u64, Vector> = BTreeMap::new();
+        let mut of_family: BTreeMap<&str, usize> = BTreeMap::new();
+        for seed in 0..seeds {
+            let crop = generate::crop(seed);
+            let v = made(
+                &format!("{} {seed}", crop.family),
+                &crop,
+                crop.capacity_words,
+            );
+            let size = v.file.len() + 4 * v.records.len();
+            for row in rows(&crop, &v) {
+                let entry = best.entry(row).or_insert((usize::MAX, 0));
+                *entry = (*entry).min((size, seed));
+            }
+            let count = of_family.entry(crop.family).or_insert(0);
+            if *count < OF_A_FAMILY && size < 3_000 {
+                *count += 1;
+                taken.insert(seed, v);
+            }
+        }
+        for &(_, seed) in best.values() {
+            taken.entry(seed).or_insert_with(|| {
+                let crop = generate::crop(seed);
+                made(
+                    &format!("{} {seed}", crop.family),
+                    &crop,
+                    crop.capacity_words,
+                )
+            });
+        }
+        taken.into_values().collect()
+    }
+
+    /// Small files for each of the numbers 1 to 5, in buffers that would fit them.
+    fn refused() -> Vec<Vector> {
+        let mut of_number = [0; 6];
+        let mut chosen = Vec::new();
+        for seed in 0..20_000 {
+            let file = generate::bad_file(seed);
+            let number = harness::check(&file) as usize;
+            if number > 0 && of_number[number] < OF_A_REFUSAL && file.len() < 3_000 {
+                of_number[number] += 1;
+                let size = words_of(&file).min(100);
+                let name = format!("refused {number} {seed}");
+                chosen.push(Vector::made(&name, &file, [size, 80, size], search_file));
+            }
+        }
+        chosen
+    }
+
+    /// Number 6 for each buffer, and what comes before it.
+    fn lengths_refused() -> Vec<Vector> {
+        let crop = generate::family("noise", 1);
+        let n = crop.words.len();
+        let lengths = [
+            [n - 1, 40, n],
+            [n + 1, 40, n],
+            [n, 39, n],
+            [n, 40, n - 1],
+            [n, 40, n + 1],
+            [n, 0, 0],
+            [0, 40, n],
+        ];
+        let mut chosen = Vec::new();
+        for (i, lengths) in lengths.into_iter().enumerate() {
+            chosen.push(Vector::made(
+                &format!("lengths {i}"),
+                &crop.file(),
+                lengths,
+                search_file,
+            ));
+        }
+        let mut short = crop.file();
+        short.pop();
+        chosen.push(Vector::made(
+            "lengths and short file",
+            &short,
+            [n - 1, 39, n],
+            search_file,
+        ));
+        chosen
+    }
+
+    /// The crops of a folder, by name.
+    fn stored_crops(folder: &Path) -> Vec<Vector> {
+        let entries = std::fs::read_dir(folder).expect("the folder of crops");
+        let mut paths: Vec<_> = entries.map(|e| e.expect("an entry").path()).collect();
+        paths.sort();
+        let vector = |path: &std::path::PathBuf| {
+            let file = std::fs::read(path).expect("a crop");
+            let name = path
+                .file_stem()
+                .expect("a name")
+                .to_string_lossy()
+                .into_owned();
+            let n = words_of(&file);
+            Vector::made(&name, &file, [n, 16_000, n], search_file)
+        };
+        paths.iter().map(vector).collect()
+    }
+}

@@ -1,0 +1,112 @@
+//! Test images and crop files from a seed: the same ones on every machine.
+
+mod aim;
+mod angle;
+mod canvas;
+mod coverage;
+mod draw;
+mod families;
+mod files;
+mod painted;
+mod random;
+
+pub use coverage::Coverage;
+pub use files::{BAD_FAMILIES, BadFile, bad, bad_file, pack};
+
+use families::Made;
+use random::Random;
+
+/// An image, and the length in u32 words of a record buffer to search it with.
+#[derive(Clone, Debug, PartialEq, Eq)]
+pub struct Crop {
+    pub family: &'static str,
+    pub width: u32,
+    pub height: u32,
+    /// Rows of ceil(width/64) words; column c is bit c mod 64, padding zero.
+    pub words: Vec<u64>,
+    pub capacity_words: usize,
+}
+
+impl Crop {
+    /// The crop file of the image.
+    pub fn file(&self) -> Vec<u8> {
+        pack(self.width, self.height, &self.words)
+    }
+}
+
+type Maker = fn(&mut Random) -> Made;
+
+/// Name, share of 100 and maker of each family.
+const MAKERS: [(&str, u32, Maker); 13] = [
+    ("noise", 11, families::noise),
+    ("runs", 8, families::runs),
+    ("sizes", 2, families::sizes),
+    ("eyes", 10, families::eyes),
+    ("lines", 9, families::lines),
+    ("uneven", 7, families::uneven),
+    ("symbols", 11, families::symbols),
+    ("painted", 20, families::painted),
+    ("lost", 7, families::lost),
+    ("padding", 6, families::padding),
+    ("capacity", 4, families::capacity),
+    ("scattered", 4, families::scattered),
+    ("plain", 1, families::plain),
+];
+
+const fn names() -> [&'static str; 13] {
+    let mut all = [""; 13];
+    let mut k = 0;
+    while k < 13 {
+        all[k] = MAKERS[k].0;
+        k += 1;
+    }
+    all
+}
+
+/// The names that `family` takes.
+pub const FAMILIES: &[&str] = &names();
+
+/// The image of a seed, of a family that the seed picks.
+pub fn crop(seed: u64) -> Crop {
+    let mut random = Random::new(seed);
+    let mut left = random.below(100);
+    let mut at = 0;
+    while left >= MAKERS[at].1 {
+        left -= MAKERS[at].1;
+        at += 1;
+    }
+    build(at, random)
+}
+
+/// The image of a seed within a named family; panics on an unknown name.
+pub fn family(name: &str, seed: u64) -> Crop {
+    let mut random = Random::new(seed);
+    random.next();
+    let at = FAMILIES.iter().position(|&known| known == name);
+    build(at.expect("a name out of FAMILIES"), random)
+}
+
+fn build(at: usize, mut random: Random) -> Crop {
+    let (family, _, maker) = MAKERS[at];
+    let usual = usual_capacity(&mut random);
+    let (canvas, wanted) = maker(&mut random);
+    Crop {
+        family,
+        width: canvas.width,
+        height: canvas.height,
+        words: canvas.words,
+        capacity_words: wanted.unwrap_or(usual),
+    }
+}
+
+/// Mostly room enough; sometimes one to three records, rarely none.
+fn usual_capacity(random: &mut Random) -> usize {
+    match random.below(64) {
+        0 => random.between(0, 39) as usize,
+        1 => random.pick(&[40, 41, 79, 80, 81, 119, 120]),
+        2 => 40 * 400,
+        3..=15 => 40 * 100,
+        16..=31 => 40 * 20 + random.between(0, 39) as usize,
+        _ => 40 * 12,
+    }
+}

@@ -1,0 +1,157 @@
+//! Which answers, outcomes, scales, classes and degrees a set of searches has reached.
+
+use std::fmt::Write;
+
+const RECORD: usize = 40;
+
+/// Upper ends of the rows of the count tables.
+const ENDS: [u32; 8] = [0, 1, 2, 4, 8, 32, 1023, 1024];
+
+/// Counts over all reports added.
+#[derive(Clone, Debug)]
+pub struct Coverage {
+    pub answers: [u64; 9],
+    pub outcomes: [u64; 3],
+    /// Scales 1 to 5 of records with a turn, and of those with a lost centre.
+    pub turned: [u64; 5],
+    pub lost: [u64; 5],
+    /// Classes of records with a turn.
+    pub classes: [u64; 4],
+    /// Turns of 0, 2, .. 348 degrees.
+    pub degrees: [u64; 175],
+    /// Turns by scale and degree.
+    pub pairs: [[u64; 175]; 5],
+    pub none_kept: u64,
+    pub found: [u64; 9],
+    pub kept: [u64; 9],
+}
+
+impl Default for Coverage {
+    fn default() -> Self {
+        Self::new()
+    }
+}
+
+fn row_of(count: u32) -> usize {
+    ENDS.iter().position(|&end| count <= end).unwrap_or(8)
+}
+
+impl Coverage {
+    pub fn new() -> Self {
+        Coverage {
+            answers: [0; 9],
+            outcomes: [0; 3],
+            turned: [0; 5],
+            lost: [0; 5],
+            classes: [0; 4],
+            degrees: [0; 175],
+            pairs: [[0; 175]; 5],
+            none_kept: 0,
+            found: [0; 9],
+            kept: [0; 9],
+        }
+    }
+
+    /// Count one report and the `kept` records at the head of `records`.
+    pub fn add(&mut self, answer: u32, found: u32, kept: u32, records: &[u32]) {
+        if let Some(count) = self.answers.get_mut(answer as usize) {
+            *count += 1;
+        }
+        if !matches!(answer, 0 | 7 | 8) {
+            return;
+        }
+        self.found[row_of(found)] += 1;
+        self.kept[row_of(kept)] += 1;
+        self.none_kept += (answer == 8 && found > 0) as u64;
+        for record in records.chunks_exact(RECORD).take(kept as usize) {
+            self.add_record(record);
+        }
+    }
+
+    fn add_record(&mut self, record: &[u32]) {
+        let (outcome, scale) = (record[26] as usize, record[27] as usize);
+        if let Some(count) = self.outcomes.get_mut(outcome) {
+            *count += 1;
+        }
+        if !(1..=5).contains(&scale) {
+            return;
+        }
+        match outcome {
+            1 => self.add_turn(scale, f32::from_bits(record[28]), record[39]),
+            2 => self.lost[scale - 1] += 1,
+            _ => (),
+        }
+    }
+
+    fn add_turn(&mut self, scale: usize, rotation: f32, class: u32) {
+        self.turned[scale - 1] += 1;
+        if let Some(count) = self.classes.get_mut(class as usize) {
+            *count += 1;
+        }
+        let at = (rotation / 2.0) as usize;
+        if at < 175 && rotation == 2.0 * at as f32 {
+            self.degrees[at] += 1;
+            self.pairs[scale - 1][at] += 1;
+        }
+    }
+
+    /// Every row that has to be reached, with its count.
+    fn rows(&self) -> Vec<(String, u64)> {
+        let mut rows = Vec::new();
+        let mut push = |name: &str, first: usize, step: usize, counts: &[u64]| {
+            for (k, &count) in counts.iter().enumerate() {
+                rows.push((format!("{name} {}", first + step * k), count));
+            }
+        };
+        push("answer", 0, 1, &self.answers);
+        push("outcome", 0, 1, &self.outcomes);
+        push("turn at scale", 1, 1, &self.turned);
+        push("lost centre at scale", 1, 1, &self.lost);
+        push("class", 0, 1, &self.classes);
+        push("turn of degree", 0, 2, &self.degrees);
+        rows.push(("answer 8 with candidates found".into(), self.none_kept));
+        rows
+    }
+
+    /// The rows with count 0.
+    pub fn missing(&self) -> Vec<String> {
+        let rows = self.rows().into_iter();
+        rows.filter(|row| row.1 == 0).map(|row| row.0).collect()
+    }
+
+    /// Pairs of scale and degree that no turn has reached.
+    pub fn missing_pairs(&self) -> usize {
+        self.pairs.iter().flatten().filter(|&&n| n == 0).count()
+    }
+
+    /// All counts in Markdown; the degrees in one row, with the rarest.
+    pub fn table(&self) -> String {
+        let mut text = String::from("Row | Count\n---|---\n");
+        for (name, count) in self.rows() {
+            if !name.starts_with("turn of degree") {
+                let _ = writeln!(text, "{name} | {count}");
+            }
+        }
+        let reached = self.degrees.iter().filter(|&&n| n > 0).count();
+        let fewest = self.degrees.iter().min().unwrap_or(&0);
+        let _ = writeln!(text, "degrees reached, of 175 | {reached}");
+        let _ = writeln!(text, "turns of the rarest degree | {fewest}");
+        let pairs = 875 - self.missing_pairs();
+        let _ = writeln!(text, "pairs of scale and degree reached, of 875 | {pairs}");
+        self.count_rows(&mut text);
+        text
+    }
+
+    fn count_rows(&self, text: &mut String) {
+        for (name, counts) in [("found", &self.found), ("kept", &self.kept)] {
+            for (k, count) in counts.iter().enumerate() {
+                let low = if k == 0 { 0 } else { ENDS[k - 1] + 1 };
+                let _ = match ENDS.get(k) {
+                    Some(&end) if end == low => writeln!(text, "{name} {low} | {count}"),
+                    Some(end) => writeln!(text, "{name} {low} to {end} | {count}"),
+                    None => writeln!(text, "{name} {low} or more | {count}"),
+                };
+            }
+        }
+    }
+}

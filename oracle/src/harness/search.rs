@@ -1,0 +1,60 @@
+// The accepted search: the source's sweep, its retain and sort, and its box for each kept circle.
+
+use super::super::super::{Record, Report, capacity};
+use super::{BitMatrix, Circle, box_symbol, detect, find_concentric_circles};
+use crate::RECORD_WORDS;
+
+/// Searches an image that no check refuses.
+pub fn search(
+    words: &[u64],
+    width: u32,
+    height: u32,
+    records: &mut [u32],
+    marks: &mut [u64],
+) -> Report {
+    let capacity = capacity(records);
+    let image = BitMatrix::of(words, width, height);
+    let sweep = find_concentric_circles(&image, capacity);
+    let found = sweep.as_ref().map_or(0, Vec::len);
+    let full = found > capacity;
+    let mut kept = if full {
+        Vec::new()
+    } else {
+        detect(sweep).unwrap_or_default()
+    };
+    let whole = &mut records[..RECORD_WORDS * capacity];
+    whole.fill(0);
+    for (circle, record) in kept.iter_mut().zip(whole.chunks_exact_mut(RECORD_WORDS)) {
+        boxed(&image, circle).write_to(record);
+    }
+    marks.fill(0);
+    image.marks().write_to(marks);
+    Report {
+        answer: match (full, kept.is_empty()) {
+            (true, _) => 7,
+            (false, true) => 8,
+            (false, false) => 0,
+        },
+        found: found as u32,
+        kept: kept.len() as u32,
+        marked: marks.iter().map(|word| word.count_ones()).sum(),
+    }
+}
+
+/// The record of a kept circle, after its box and turn.
+pub(super) fn boxed(image: &BitMatrix, circle: &mut Circle) -> Record {
+    let found = [circle.center.x, circle.center.y];
+    let (corners, rotation) = box_symbol(image, circle).expect("no error without experiments");
+    Record {
+        found,
+        radius: circle.radius,
+        row_runs: circle.horizontal_buckets,
+        column_runs: circle.vertical_buckets,
+        variance: circle.calculate_circle_variance(),
+        outcome: circle.trace.outcome,
+        scale: circle.trace.scale,
+        rotation,
+        centre: [circle.center.x, circle.center.y],
+        corners,
+    }
+}

@@ -1,0 +1,146 @@
+//! The entries: refusals, buffers, capacity, and that the log changes no result.
+
+use super::{check, plain, search_file, search_words};
+use crate::{RECORD_WORDS, Report, crop};
+
+/// Noise of the given density in 1/256.
+fn noise(width: u32, height: u32, density: u64, seed: u64) -> Vec<u64> {
+    let mut words = vec![0; crop::image_words(width, height)];
+    let mut state = seed;
+    for (x, y) in (0..height).flat_map(|y| (0..width).map(move |x| (x, y))) {
+        state = state
+            .wrapping_mul(6364136223846793005)
+            .wrapping_add(1442695040888963407);
+        if state >> 56 < density {
+            crop::set_pixel(&mut words, width, x, y);
+        }
+    }
+    words
+}
+
+/// So many single-pixel crosses side by side in a row of their own.
+fn crosses(count: u32) -> (Vec<u64>, u32, u32) {
+    let (width, height) = (33 + 16 * count, 40);
+    let mut words = vec![0; crop::image_words(width, height)];
+    for x in (0..count).map(|place| 20 + 16 * place) {
+        for distance in [1, 3, 5] {
+            crop::set_pixel(&mut words, width, x - distance, 20);
+            crop::set_pixel(&mut words, width, x + distance, 20);
+            crop::set_pixel(&mut words, width, x, 20 - distance);
+            crop::set_pixel(&mut words, width, x, 20 + distance);
+        }
+    }
+    (words, width, height)
+}
+
+/// A report's refusal.
+fn refused(answer: u32) -> Report {
+    Report {
+        answer,
+        ..Report::default()
+    }
+}
+
+#[test]
+fn refusals_change_no_buffer() {
+    let words = noise(65, 40, 100, 1);
+    let file = crop::pack(&words, 65, 40);
+    let cases = [
+        (&file[..3], 80, 40, 80, 1),
+        (&file[..9], 80, 40, 80, 4),
+        (&file[..], 79, 40, 80, 6),
+        (&file[..], 80, 39, 80, 6),
+        (&file[..], 80, 40, 81, 6),
+        (&file[..], 80, 0, 80, 6),
+    ];
+    for (file, to, room, marked, answer) in cases {
+        let (mut unpacked, mut records, mut marks) = (vec![7; to], vec![7; room], vec![7; marked]);
+        let report = search_file(file, &mut unpacked, &mut records, &mut marks);
+        assert_eq!(report, refused(answer));
+        assert!(unpacked.iter().chain(&marks).all(|word| *word == 7));
+        assert!(records.iter().all(|word| *word == 7));
+    }
+    assert_eq!(check(&file), 0);
+}
+
+#[test]
+fn refusals_of_words() {
+    let words = noise(65, 40, 100, 2);
+    let report = |words: &[u64], width, height, room, marked| {
+        search_words(
+            words,
+            width,
+            height,
+            &mut vec![0; room],
+            &mut vec![0; marked],
+        )
+    };
+    assert_eq!(report(&[], 0, 0, 0, 0), refused(2));
+    assert_eq!(report(&words, u32::MAX, u32::MAX, 0, 0), refused(2));
+    assert_eq!(report(&words, 2048, 251, 0, 0), refused(3));
+    assert_eq!(report(&words, 65, 41, 0, 0), refused(4));
+    assert_eq!(report(&[u64::MAX; 80], 65, 40, 0, 0), refused(5));
+    assert_eq!(report(&words, 65, 40, 39, 80), refused(6));
+    assert_eq!(report(&words, 65, 40, 40, 81), refused(6));
+}
+
+#[test]
+fn words_beyond_the_capacity_stay() {
+    let (words, width, height) = crosses(1);
+    let mut records = vec![9; 3 * RECORD_WORDS + 5];
+    let mut marks = vec![9; words.len()];
+    let report = search_words(&words, width, height, &mut records, &mut marks);
+    assert_eq!((report.answer, report.found, report.kept), (0, 1, 1));
+    assert_eq!(records[..3], [20, 20, 6]);
+    assert!(
+        records[RECORD_WORDS..3 * RECORD_WORDS]
+            .iter()
+            .all(|word| *word == 0)
+    );
+    assert!(records[3 * RECORD_WORDS..].iter().all(|word| *word == 9));
+    let ones: u32 = marks.iter().map(|word| word.count_ones()).sum();
+    assert_eq!(report.marked, ones);
+}
+
+#[test]
+fn one_candidate_above_the_capacity() {
+    let (words, width, height) = crosses(4);
+    let search = |room| {
+        let (mut records, mut marks) = (vec![9; room * RECORD_WORDS], vec![0; words.len()]);
+        (
+            search_words(&words, width, height, &mut records, &mut marks),
+            records,
+        )
+    };
+    let (full, _) = search(4);
+    assert_eq!((full.answer, full.found), (0, 4));
+    for room in 1..4 {
+        let (report, records) = search(room);
+        assert_eq!((report.answer, report.kept), (7, 0));
+        assert_eq!(report.found as usize, room + 1);
+        assert!(report.marked < full.marked);
+        assert!(records.iter().all(|word| *word == 0));
+    }
+}
+
+/// Words and file, logged and plain, agree on noise of many kinds; nothing panics.
+#[test]
+fn entries_agree_on_noise() {
+    for seed in 0..600 {
+        let width = [33, 63, 64, 65, 127, 128, 129][seed as usize % 7];
+        let height = 33 + seed as u32 % 40;
+        let words = noise(width, height, seed % 257, seed);
+        let (mut records, mut marks) = (vec![1; 50 * RECORD_WORDS], vec![1; words.len()]);
+        let logged = search_words(&words, width, height, &mut records, &mut marks);
+        let (mut other, mut clear) = (vec![2; 50 * RECORD_WORDS], vec![2; words.len()]);
+        let plain = plain::search_words(&words, width, height, &mut other, &mut clear);
+        assert_eq!((plain.answer, plain.found), (logged.answer, logged.found));
+        assert_eq!((plain.kept, plain.marked), (logged.kept, 0));
+        assert_eq!(other, records);
+        let file = crop::pack(&words, width, height);
+        let (mut unpacked, mut again) = (vec![3; words.len()], vec![3; words.len()]);
+        let from_file = search_file(&file, &mut unpacked, &mut other, &mut again);
+        assert_eq!((from_file, &other), (logged, &records));
+        assert_eq!((unpacked, again), (words, marks));
+    }
+}

@@ -1,0 +1,12 @@
+//! The judge of the finder: the Rust's own functions, built from its text, and a second reading of document 01.
+
+pub mod crop;
+pub mod generate;
+#[cfg(source)]
+pub mod harness;
+mod report;
+pub mod second;
+pub mod sines;
+pub mod vectors;
+
+pub use report::{MOST_CANDIDATES, RECORD_WORDS, Report};

@@ -1,0 +1,223 @@
+//! Stored vectors: crop files, the lengths of the lent buffers, and what a search must answer and leave.
+//!
+//! A pack is a run of vectors. Each is, in little-endian order: a name of 24 bytes padded with zeros; u32 lengths of the
+//! lent words, records and marks and of the file; the u32 report (answer, found, kept, marked); the file's bytes, padded
+//! with zeros to a multiple of 8; then, if the image was accepted (answers 0, 7, 8), the kept records as u32 words and
+//! the marks as u64 words.
+
+use crate::{MOST_CANDIDATES, RECORD_WORDS, Report};
+
+const NAME_BYTES: usize = 24;
+
+#[derive(Clone, Debug, PartialEq, Eq)]
+pub struct Vector {
+    pub name: String,
+    pub words_len: usize,
+    pub records_len: usize,
+    pub marks_len: usize,
+    pub file: Vec<u8>,
+    pub report: Report,
+    pub records: Vec<u32>,
+    pub marks: Vec<u64>,
+}
+
+/// An entry that searches a crop file.
+pub type SearchFile = fn(&[u8], &mut [u64], &mut [u32], &mut [u64]) -> Report;
+
+/// The lent buffers. Their first content is a pattern, so that a word that must stay as it was is told from a zero.
+#[derive(Clone, Debug, PartialEq, Eq)]
+pub struct Lent {
+    pub words: Vec<u64>,
+    pub records: Vec<u32>,
+    pub marks: Vec<u64>,
+}
+
+impl Lent {
+    pub fn new(words_len: usize, records_len: usize, marks_len: usize) -> Lent {
+        let pattern = |i: usize| (i as u64 + 1).wrapping_mul(0x9e37_79b9_7f4a_7c15);
+        Lent {
+            words: (0..words_len).map(pattern).collect(),
+            records: (0..records_len).map(|i| pattern(i) as u32).collect(),
+            marks: (0..marks_len).map(|i| !pattern(i)).collect(),
+        }
+    }
+
+    /// The report of a search of `file` in these buffers.
+    pub fn search(&mut self, search: SearchFile, file: &[u8]) -> Report {
+        search(file, &mut self.words, &mut self.records, &mut self.marks)
+    }
+}
+
+/// An image was accepted: the search ran.
+pub fn accepted(answer: u32) -> bool {
+    matches!(answer, 0 | 7 | 8)
+}
+
+impl Vector {
+    /// The vector that a search of `file` makes.
+    pub fn made(name: &str, file: &[u8], lengths: [usize; 3], search: SearchFile) -> Vector {
+        let [words_len, records_len, marks_len] = lengths;
+        let mut lent = Lent::new(words_len, records_len, marks_len);
+        let report = lent.search(search, file);
+        let ran = accepted(report.answer);
+        lent.records.truncate(report.kept as usize * RECORD_WORDS);
+        Vector {
+            name: name.to_string(),
+            words_len,
+            records_len,
+            marks_len,
+            file: file.to_vec(),
+            report,
+            records: if ran { lent.records } else { Vec::new() },
+            marks: if ran { lent.marks } else { Vec::new() },
+        }
+    }
+
+    /// What the buffers hold afterwards, but for the unpacked words.
+    fn expected(&self) -> Lent {
+        let mut lent = Lent::new(self.words_len, self.records_len, self.marks_len);
+        if accepted(self.report.answer) {
+            let capacity = MOST_CANDIDATES.min(self.records_len / RECORD_WORDS);
+            lent.records[..capacity * RECORD_WORDS].fill(0);
+            lent.records[..self.records.len()].copy_from_slice(&self.records);
+            lent.marks.copy_from_slice(&self.marks);
+            lent.words = unpacked(&self.file);
+        }
+        lent
+    }
+
+    /// The first difference between what the vector says and what a search does.
+    pub fn replay(&self, search: SearchFile) -> Result<(), String> {
+        let mut lent = Lent::new(self.words_len, self.records_len, self.marks_len);
+        let report = lent.search(search, &self.file);
+        let expected = self.expected();
+        if report != self.report {
+            return Err(format!("{}: {report:?}, not {:?}", self.name, self.report));
+        }
+        let place = |what: &str, i: Option<usize>| match i {
+            Some(i) => Err(format!("{}: {what} differ at {i}", self.name)),
+            None => Ok(()),
+        };
+        place("words", first_difference(&lent.words, &expected.words))?;
+        place(
+            "records",
+            first_difference(&lent.records, &expected.records),
+        )?;
+        place("marks", first_difference(&lent.marks, &expected.marks))
+    }
+
+    fn write(&self, out: &mut Vec<u8>) {
+        let mut name = self.name.clone().into_bytes();
+        assert!(name.len() <= NAME_BYTES, "{} is too long", self.name);
+        name.resize(NAME_BYTES, 0);
+        out.extend(name);
+        let lengths = [
+            self.words_len,
+            self.records_len,
+            self.marks_len,
+            self.file.len(),
+        ];
+        out.extend(lengths.iter().flat_map(|&n| (n as u32).to_le_bytes()));
+        let r = self.report;
+        out.extend(
+            [r.answer, r.found, r.kept, r.marked]
+                .iter()
+                .flat_map(|n| n.to_le_bytes()),
+        );
+        out.extend(&self.file);
+        out.resize(out.len().next_multiple_of(8), 0);
+        out.extend(self.records.iter().flat_map(|n| n.to_le_bytes()));
+        out.extend(self.marks.iter().flat_map(|n| n.to_le_bytes()));
+    }
+}
+
+fn first_difference<T: PartialEq>(a: &[T], b: &[T]) -> Option<usize> {
+    (0..a.len().max(b.len())).find(|&i| a.get(i) != b.get(i))
+}
+
+/// The words that a file's dimensions need, or 0 where there is no whole header.
+pub fn words_of(file: &[u8]) -> usize {
+    let Some(&[a, b, c, d]) = file.first_chunk::<4>() else {
+        return 0;
+    };
+    let head = u32::from_be_bytes([a, b, c, d]);
+    ((head >> 16 & 0xfff) as usize).div_ceil(64) * (head >> 4 & 0xfff) as usize
+}
+
+/// The words of a file that was accepted: rows of whole words, column c at bit c mod 64.
+fn unpacked(file: &[u8]) -> Vec<u64> {
+    let head = u32::from_be_bytes([file[0], file[1], file[2], file[3]]);
+    let (width, height) = ((head >> 16 & 0xfff) as usize, (head >> 4 & 0xfff) as usize);
+    let (row_bytes, row_words) = (width.div_ceil(8), width.div_ceil(64));
+    let mut words = vec![0; row_words * height];
+    for y in 0..height {
+        for x in 0..width {
+            let bit = file[4 + y * row_bytes + x / 8] >> (7 - x % 8) & 1;
+            words[y * row_words + x / 64] |= u64::from(bit) << (x % 64);
+        }
+    }
+    words
+}
+
+pub fn write(vectors: &[Vector]) -> Vec<u8> {
+    let mut out = Vec::new();
+    vectors.iter().for_each(|v| v.write(&mut out));
+    out
+}
+
+pub fn read(pack: &[u8]) -> Vec<Vector> {
+    let mut rest = Cursor { bytes: pack, at: 0 };
+    let mut vectors = Vec::new();
+    while rest.at < pack.len() {
+        vectors.push(rest.vector());
+    }
+    vectors
+}
+
+struct Cursor<'a> {
+    bytes: &'a [u8],
+    at: usize,
+}
+
+impl<'a> Cursor<'a> {
+    fn take(&mut self, n: usize) -> &'a [u8] {
+        self.at += n;
+        &self.bytes[self.at - n..self.at]
+    }
+
+    fn u32(&mut self) -> u32 {
+        u32::from_le_bytes(self.take(4).try_into().unwrap())
+    }
+
+    fn u64(&mut self) -> u64 {
+        u64::from_le_bytes(self.take(8).try_into().unwrap())
+    }
+
+    fn vector(&mut self) -> Vector {
+        let name = self.take(NAME_BYTES);
+        let end = name.iter().position(|&b| b == 0).unwrap_or(NAME_BYTES);
+        let [words_len, records_len, marks_len, file_len] = [(); 4].map(|()| self.u32() as usize);
+        let [answer, found, kept, marked] = [(); 4].map(|()| self.u32());
+        let file = self.take(file_len).to_vec();
+        self.at = self.at.next_multiple_of(8);
+        let (records, marks) = match accepted(answer) {
+            true => (kept as usize * RECORD_WORDS, marks_len),
+            false => (0, 0),
+        };
+        Vector {
+            name: String::from_utf8_lossy(&name[..end]).into_owned(),
+            words_len,
+            records_len,
+            marks_len,
+            file,
+            report: Report {
+                answer,
+                found,
+                kept,
+                marked,
+            },
+            records: (0..records).map(|_| self.u32()).collect(),
+            marks: (0..marks).map(|_| self.u64()).collect(),
+        }
+    }
+}
