@@ -1,0 +1,20 @@
+-- `rxing_result_point::get_point` meets its contract: what the calls ensure, put together.
+-- Assumes nothing.
+use borrow.Author.Needs.{needs}
+use Rattle.rxing_result_point.proofs.get_point.Statement.{statement}
+use Rattle.rxing_result_point.proofs.get_point.Tie as tie
+
+sine-requires : tie.Need-sine-requires
+sine-requires c κs = search needs
+
+cosine-requires : tie.Need-cosine-requires
+cosine-requires c κs = search needs
+
+turn-requires : tie.Need-turn-requires
+turn-requires c κs = search needs
+
+returns : tie.Need-returns
+returns c = cc
+
+pub get-point-spec : {M : Type 1} → statement M
+get-point-spec = tie.close (tie.spec sine-requires cosine-requires turn-requires returns)

@@ -1,0 +1,39 @@
+-- A point turned about a centre and a point's pixel, each operation rounded once. Definitions only. Assumes nothing.
+use Prim.Native.Nat.{ℕ}
+use lib.IntN.{pos}
+use lib.Ieee.{Float, binary32, add, sub, mul, ofInt, toUnsigned}
+use Rattle.ieee.specs.Sign.{abs}
+use Rattle.ieee.specs.Integral.{floor, roundTiesToAway}
+use Rattle.sines.specs.Sines.{sineOf, cosineOf}
+use Rattle.rxing_result_point.specs.declared.Point.{Point}
+use Rattle.rxing_result_point.specs.declared.PointU.{PointU}
+
+-- a whole number as an f32
+abbrev pub real : ℕ → Float
+real n = ofInt binary32 (pos n)
+
+-- how far a coordinate lies past the centre's
+abbrev pub past : ℕ → ℕ → Float
+past center n = sub binary32 (real n) (real center)
+
+-- `original` turned about `center` by the angle with this sine and cosine, without its signs
+unfoldable pub turned : PointU → PointU → Float → Float → Point
+turned center original sin cos =
+    let u = past (center .x) (original .x) in
+    let v = past (center .y) (original .y) in
+    record {
+      x = abs (add binary32 (sub binary32 (mul binary32 cos u) (mul binary32 sin v)) (real (center .x)));
+      y = abs (add binary32 (add binary32 (mul binary32 sin u) (mul binary32 cos v)) (real (center .y)));
+    }
+
+-- `get_point`: by whole degrees
+abbrev pub getPoint : PointU → PointU → ℕ → Point
+getPoint center original degree = turned center original (sineOf degree) (cosineOf degree)
+
+-- a coordinate by `round`, `floor` and the cast: halves away from zero, a NaN to 0
+abbrev pub roundedTo : Float → ℕ
+roundedTo x = toUnsigned 32 (floor binary32 (roundTiesToAway binary32 x))
+
+-- `round` and the conversion to PointU
+abbrev pub rounded : Point → PointU
+rounded p = record { x = roundedTo (p .x); y = roundedTo (p .y) }
