@@ -1,0 +1,4 @@
+pub mod Pixels
+pub mod PixelsLaws
+pub mod Area
+pub mod Examples

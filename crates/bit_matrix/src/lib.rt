@@ -1,0 +1,207 @@
+// bit_matrix.rs: the pixels of an image of 64-bit words, true for black, with a mark set for each stored bit that is read.
+// `get` alone decides what is read. An image has rows of `row_words` words; bit c % 64 of word c / 64 of a row is its column c.
+ghost use mathlib.Core.Path.{_≡_};
+ghost use Prim.Native.Nat.{_+_, _-_, _^_, _≤_, _<_};
+ghost use lib.ListN.{length};
+ghost use Rattle.reads.specs.Bits.{zeros};
+ghost use Rattle.reads.specs.Runs.{Ran};
+ghost use Rattle.bit_matrix.specs.Pixels.{offset, pixel, outOfRange, tryGet, onesOf};
+ghost use Rattle.bit_matrix.specs.Area.{column, box, countBlack, tryGetArea};
+
+// What `try_get` and `try_get_area` answer: outside the image, or inside, true for black.
+pub enum Sample {
+    Outside,
+    Inside(bool),
+}
+
+// How many pixels are black, unless one of them lies outside.
+enum Count {
+    Outside,
+    Black(u32),
+}
+
+// The word that holds column x of row y.
+fn get_offset(row_words: usize, y: u32, x: u32) -> usize
+    requires { ⌜ «row_words» < 2 ^ 32 ⌝ }
+    ensures { λ r. ⌜ r ≡ offset «row_words» x y ⌝ }
+{
+    (y as usize) * row_words + (x as usize) / 64
+}
+
+// The pixel at column x of row y. Its bit is marked, unless it lies past the last word: then it is white, and unread.
+pub fn get(words: &[u64], marks: &mut [u64], row_words: usize, x: u32, y: u32) -> bool
+    requires { ⌜ (length (now marks) ≡ length (now words)) × («row_words» < 2 ^ 32) ⌝ }
+    ensures { λ r. ⌜ Ran (pixel «row_words» (length (now (words .entry))) x y) (now (words .entry)) (now (marks .entry)) r (now (marks .exit)) ⌝ }
+{
+    let offset = get_offset(row_words, y, x);
+    if offset >= words.len() {
+        return false;
+    }
+    let shift = x % 64;
+    marks[offset] |= 1u64 << shift;
+    words[offset] >> shift & 1 != 0
+}
+
+// True when the pixel lies OUT of range, past the last word.
+pub fn check_in_bounds(words: &[u64], row_words: usize, x: u32, y: u32) -> bool
+    requires { ⌜ «row_words» < 2 ^ 32 ⌝ }
+    ensures { λ r. ⌜ r ≡ outOfRange «row_words» (length (now (words .entry))) x y ⌝ }
+{
+    get_offset(row_words, y, x) >= words.len()
+}
+
+// The pixel at column x of row y, or none outside the width or height, where nothing is read.
+pub fn try_get(
+    words: &[u64],
+    marks: &mut [u64],
+    row_words: usize,
+    width: u32,
+    height: u32,
+    x: u32,
+    y: u32,
+) -> Sample
+    requires { ⌜ (length (now marks) ≡ length (now words)) × («row_words» < 2 ^ 32) ⌝ }
+    ensures { λ r. ⌜ Ran (tryGet «row_words» (length (now (words .entry))) width height x y) (now (words .entry)) (now (marks .entry)) r (now (marks .exit)) ⌝ }
+{
+    if x >= width {
+        return Sample::Outside;
+    }
+    if y >= height {
+        return Sample::Outside;
+    }
+    Sample::Inside(get(words, marks, row_words, x, y))
+}
+
+// `black`, and one more for each black pixel of column x from row `from` up to, not including, row `to`. The first that lies outside ends it.
+fn count_column(
+    words: &[u64],
+    marks: &mut [u64],
+    row_words: usize,
+    width: u32,
+    height: u32,
+    x: u32,
+    from: u32,
+    to: u32,
+    black: u32,
+) -> Count
+    requires { ⌜ (length (now marks) ≡ length (now words)) × («row_words» < 2 ^ 32) × (black + (to - from) < 2 ^ 32) ⌝ }
+    ensures { λ r. ⌜ Ran (countBlack «row_words» (length (now (words .entry))) width height (column x from to) black) (now (words .entry)) (now (marks .entry)) r (now (marks .exit)) ⌝ }
+{
+    let mut count = black;
+    let mut y = from;
+    while y < to {
+        let sample = try_get(words, marks, row_words, width, height, x, y);
+        match sample {
+            Sample::Outside => {
+                return Count::Outside;
+            }
+            Sample::Inside(b) => {
+                count += b as u32;
+            }
+        }
+        y += 1;
+    }
+    Count::Black(count)
+}
+
+// The black pixels of a box of at most 3 by 3, column after column.
+fn count_box(
+    words: &[u64],
+    marks: &mut [u64],
+    row_words: usize,
+    width: u32,
+    height: u32,
+    left: u32,
+    right: u32,
+    from: u32,
+    to: u32,
+) -> Count
+    requires { ⌜ (length (now marks) ≡ length (now words)) × («row_words» < 2 ^ 32) × (right ≤ left + 3) × (to ≤ from + 3) ⌝ }
+    ensures { λ r. ⌜ Ran (countBlack «row_words» (length (now (words .entry))) width height (box left right from to) 0) (now (words .entry)) (now (marks .entry)) r (now (marks .exit)) ⌝ }
+{
+    let mut black = 0u32;
+    let mut x = left;
+    while x < right {
+        let count = count_column(words, marks, row_words, width, height, x, from, to, black);
+        match count {
+            Count::Outside => {
+                return Count::Outside;
+            }
+            Count::Black(n) => {
+                black = n;
+            }
+        }
+        x += 1;
+    }
+    Count::Black(black)
+}
+
+// One less, but for 0.
+fn predecessor(n: u32) -> u32
+    ensures { λ r. ⌜ r ≡ n - 1 ⌝ }
+{
+    if n == 0 { 0 } else { n - 1 }
+}
+
+// The pixels about (x, y), cut at 0, with box size 3: black when at least half of them are. Past the width or height the first of them is outside already.
+pub fn try_get_area(
+    words: &[u64],
+    marks: &mut [u64],
+    row_words: usize,
+    width: u32,
+    height: u32,
+    x: u32,
+    y: u32,
+) -> Sample
+    requires { ⌜ (length (now marks) ≡ length (now words)) × («row_words» < 2 ^ 32) × (width ≤ 2048) × (height ≤ 2048) ⌝ }
+    ensures { λ r. ⌜ Ran (tryGetArea «row_words» (length (now (words .entry))) width height x y) (now (words .entry)) (now (marks .entry)) r (now (marks .exit)) ⌝ }
+{
+    if x > width {
+        return Sample::Outside;
+    }
+    if y > height {
+        return Sample::Outside;
+    }
+    let left = predecessor(x);
+    let from = predecessor(y);
+    let count = count_box(
+        words,
+        marks,
+        row_words,
+        width,
+        height,
+        left,
+        x + 2,
+        from,
+        y + 2,
+    );
+    match count {
+        Count::Outside => Sample::Outside,
+        Count::Black(black) => Sample::Inside(2 * black >= (x + 2 - left) * (y + 2 - from)),
+    }
+}
+
+// All marks cleared.
+pub fn clear(marks: &mut [u64])
+    ensures { λ _. ⌜ now (marks .exit) ≡ zeros (length (now (marks .entry))) ⌝ }
+{
+    let mut i = 0;
+    while i < marks.len() {
+        marks[i] = 0;
+        i += 1;
+    }
+}
+
+// The number of marked bits. The bound on the words keeps the number in a u32.
+pub fn count_marks(marks: &[u64]) -> u32
+    requires { ⌜ length (now marks) < 2 ^ 26 ⌝ }
+    ensures { λ r. ⌜ r ≡ onesOf (now (marks .entry)) ⌝ }
+{
+    let mut count: u32 = 0;
+    let mut i = 0;
+    while i < marks.len() {
+        count += u64::count_ones(marks[i]);
+        i += 1;
+    }
+    count
+}

@@ -1,0 +1,61 @@
+-- The laws of sequence, one run on images that agree at the bits read, and how a fact that always holds is shown. Assumes nothing.
+use Prim.Native.Nat.{ℕ}
+use mathlib.Core.Bool.{Bool, true, false, cond}
+use mathlib.Core.Path.{_≡_, refl, ap, _∙_, fun-ext}
+use mathlib.Core.List.{List, _∷_, _++_, List·Memᴰ, List·Memᴰ·head, List·Memᴰ·tail}
+use Rattle.reads.specs.Reads.{Reads, done, read, _>>=_, value, trace, Always}
+
+-- ---- sequence
+
+pub bind-assoc : {A B C : Type 0} (p : Reads A) (k : A → Reads B) (l : B → Reads C) → p >>= k >>= l ≡ p >>= (λ a. k a >>= l)
+unfolding _>>=_
+bind-assoc (done a) k l = refl
+bind-assoc (read i next) k l = ap (read i) (fun-ext λ b. bind-assoc (next b) k l)
+
+pub value-bind : {A B : Type 0} (p : Reads A) (k : A → Reads B) (image : ℕ → Bool)
+    → value (p >>= k) image ≡ value (k (value p image)) image
+unfolding _>>=_ value
+value-bind (done a) k image = refl
+value-bind (read i next) k image = value-bind (next (image i)) k image
+
+pub trace-bind : {A B : Type 0} (p : Reads A) (k : A → Reads B) (image : ℕ → Bool)
+    → trace (p >>= k) image ≡ trace p image ++ trace (k (value p image)) image
+unfolding _>>=_ value trace
+trace-bind (done a) k image = refl
+trace-bind (read i next) k image = ap (λ (t : List ℕ). i ∷ t) (trace-bind (next (image i)) k image)
+
+-- ---- one run
+
+-- two images agree at each bit that a program reads on the first
+abbrev pub Agree : {A : Type 0} → Reads A → (ℕ → Bool) → (ℕ → Bool) → Type 0
+Agree p f g = (i : ℕ) → List·Memᴰ i (trace p f) → g i ≡ f i
+
+-- then it has one value and one trace on both
+pub same-run : {A : Type 0} (p : Reads A) (f g : ℕ → Bool) → Agree p f g → (value p g ≡ value p f) × (trace p g ≡ trace p f)
+unfolding value trace
+same-run (done a) f g agree = (refl, refl)
+same-run {A} (read i next) f g agree =
+    let rest : (value (next (f i)) g ≡ value (next (f i)) f) × (trace (next (f i)) g ≡ trace (next (f i)) f) =
+    same-run (next (f i)) f g λ j m. agree j (List·Memᴰ·tail m) in
+    let here : g i ≡ f i = agree i (List·Memᴰ·head refl) in
+    (ap (λ (b : Bool). value (next b) g) here ∙ rest .0, ap (λ (b : Bool). i ∷ trace (next b) g) here ∙ ap (λ (t : List ℕ). i ∷ t) (rest .1))
+
+-- ---- what holds of the result on every image
+
+module _ {A : Type 0} {P : A → Type 0} where
+  pub always-done : {a : A} → P a → Always P (done a)
+  unfolding value
+  always-done h = record { on = λ image. h }
+
+  -- after a step of which Q always holds
+  pub always-bind : {B : Type 0} {Q : B → Type 0} {p : Reads B} (k : B → Reads A)
+      → Always Q p → ((b : B) → Q b → Always P (k b)) → Always P (p >>= k)
+  always-bind {p = p} k first rest = record { on = λ image. rw value-bind (rest (value p image) (first .on image) .on image) }
+
+  -- after a step of which nothing is known
+  pub always-after : {B : Type 0} (p : Reads B) (k : B → Reads A) → ((b : B) → Always P (k b)) → Always P (p >>= k)
+  always-after p k rest = record { on = λ image. rw value-bind (rest (value p image) .on image) }
+
+  pub always-cond : (t : Bool) {p q : Reads A} → (t ≡ true → Always P p) → (t ≡ false → Always P q) → Always P (cond t p q)
+  always-cond true f g = f refl
+  always-cond false f g = g refl
