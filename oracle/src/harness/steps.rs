@@ -51,6 +51,25 @@ fn on<T>(image: Image, step: impl FnOnce(&BitMatrix) -> T) -> Marked<T> {
     (result, marks)
 }
 
+/// An image prepared once, whose pixels are read one by one. For timing.
+pub struct Prepared(BitMatrix);
+
+impl Prepared {
+    pub fn new(image: Image) -> Self {
+        Self(BitMatrix::of(image.words, image.width, image.height))
+    }
+
+    /// How many of a row's first columns are black.
+    #[inline(never)]
+    pub fn count_row(&self, row: u32, columns: u32) -> u32 {
+        let mut count = 0;
+        for column in 0..columns {
+            count += u32::from(self.0.get(column, row));
+        }
+        count
+    }
+}
+
 /// A white image, for steps that ask only for its dimensions.
 fn blank(width: u32, height: u32) -> BitMatrix {
     BitMatrix::of(&[], width, height)

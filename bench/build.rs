@@ -1,0 +1,29 @@
+//! Proves the crate `timed`, with what it depends on, and links the archive that `rt staticlib` writes of it.
+
+use std::path::Path;
+use std::process::Command;
+
+fn main() {
+    let folder = std::env::var("CARGO_MANIFEST_DIR").expect("cargo names the package");
+    let repository = Path::new(&folder)
+        .parent()
+        .expect("bench/ stands in the repository");
+    let output = Command::new("rt")
+        .args(["staticlib", "timed"])
+        .current_dir(repository)
+        .output()
+        .expect("rt runs");
+    let log = String::from_utf8_lossy(&output.stdout);
+    assert!(output.status.success(), "rt staticlib timed: {log}");
+    println!(
+        "cargo::rustc-link-search=native={}",
+        repository.join("target/staticlib").display()
+    );
+    println!("cargo::rustc-link-lib=static=timed");
+    for input in ["crates", "crates.txt"] {
+        println!(
+            "cargo::rerun-if-changed={}",
+            repository.join(input).display()
+        );
+    }
+}
