@@ -1,5 +1,5 @@
 -- Rust's `floor` and `round`, on the values of `lib.Ieee`. Definitions only. Assumes nothing.
--- Document 01: "`round` halves away from zero". The whole number that each names is a value of the format that holds x, so `lib.Ieee.round` only writes it down. A zero has x's sign.
+-- The whole number that each names is a value of the format that holds x, so `lib.Ieee.round` only writes it down. A zero has x's sign.
 use Prim.Native.Nat.{ℕ, _+_, _*_, _/_, _%_}
 use mathlib.Core.Bool.{true, false, cond}
 use lib.Dec.{eqb}

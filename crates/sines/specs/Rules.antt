@@ -1,5 +1,5 @@
--- Document 01's rules of the table: "scaled by 2^29 all are whole; the half-turn signs, squares summing to 2^58 within 2^35, and each next sine by the sum
--- rule of one degree within 2^35 (in units of 2^-58)". `Laws.antt` proves them. Definitions only. Assumes nothing.
+-- The rules of the table (document 01, "Box, turn and class"), on its entries as whole numbers of 2 ^ -29. `Laws.antt` proves them. Definitions only.
+-- Assumes nothing.
 use Prim.Native.Nat.{ℕ, _+_, _*_, _/_, _^_, _≤_}
 use mathlib.Core.Path.{_≡_}
 use mathlib.Core.Bool.{Bool, true, false, cond}

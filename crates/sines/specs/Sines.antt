@@ -1,5 +1,4 @@
--- Document 01, "Sine and cosine have no body here": a table of 360 sines, one for each whole degree, and the cosine as the sine 90 degrees on.
--- A degree counts modulo 360. Definitions only. Assumes nothing.
+-- The stand-in for sine and cosine (document 01, "Box, turn and class"). A degree counts modulo 360. Definitions only. Assumes nothing.
 use Prim.Native.Nat.{ℕ, _+_, _%_}
 use mathlib.Core.List.{List, map}
 use lib.ListN.{getD}
@@ -14,6 +13,6 @@ unfoldable pub sineOf : ℕ → Float
 unfolding sines
 sineOf degree = getD sines (degree % 360) nan
 
--- "cosine is the sine 90° on"
+-- the cosine: the sine a quarter turn on
 abbrev pub cosineOf : ℕ → Float
 cosineOf degree = sineOf (degree + 90)
