@@ -1,0 +1,4 @@
+-- Lemmas that belong to no one function.
+mod Padding
+mod Loads
+mod Swaps
