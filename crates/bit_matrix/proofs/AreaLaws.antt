@@ -1,6 +1,5 @@
 -- What holds of counts: over two lists in a row, at most the pixels counted, and none at the first pixel outside. Assumes nothing.
 use Prim.Native.Nat.{ℕ, zero, suc, _+_, _-_, _*_, _≤_, _<_}
-use mathlib.Core.Bool.{Bool, true, false}
 use mathlib.Core.List.{List, [], _∷_, _++_, flatMap}
 use mathlib.Core.Logic.{_⊎_, inl, inr}
 use mathlib.Core.Path.{_≡_, refl, sym, ap, _∙_, fun-ext}
@@ -8,13 +7,13 @@ use native.Mathlib.Omega.{arith}
 use lib.ListN.{length, length-append, length-map}
 use Rattle.reads.specs.Reads.{Reads, done, _>>=_, Always}
 use Rattle.reads.specs.ReadsLaws.{bind-assoc, always-done, always-after}
-use Rattle.reads.specs.Bits.{range}
-use Rattle.reads.specs.BitsLaws.{length-range}
+use Rattle.reads.specs.Bits.{digit, range}
+use Rattle.reads.specs.BitsLaws.{digit-low, length-range}
 use Rattle.reads.specs.Runs.{Ran}
 use Rattle.reads.specs.RunsLaws.{ran-done, ran-bind, always-ran}
 use Rattle.bit_matrix.specs.Pixels.{tryGet, ifSample}
 use Rattle.bit_matrix.specs.PixelsLaws.{ran-outside}
-use Rattle.bit_matrix.specs.Area.{Cell, column, box, ifCount, digit, countBlack, tryGetArea}
+use Rattle.bit_matrix.specs.Area.{Cell, column, box, ifCount, countBlack, tryGetArea}
 use Rattle.bit_matrix.specs.declared.Sample.{Sample}
 use Rattle.bit_matrix.specs.declared.Sample.the-variants.{Outside, Inside}
 use Rattle.bit_matrix.specs.declared.Count.{Count}
@@ -37,10 +36,6 @@ length-box left right from to = length-columns from to (right - left) left
 -- a count is at most `most`
 pub record Few (most : ℕ) (counted : Count) : Type 0 where
   pub few : ifCount 0 (λ n. n) counted ≤ most
-
-pub digit-low : (b : Bool) → digit b ≤ 1
-digit-low true = omega arith
-digit-low false = omega arith
 
 module _ (rowWords size width height : ℕ) where
   -- ---- two lists in a row

@@ -4,9 +4,8 @@ use mathlib.Core.Bool.{Bool}
 use mathlib.Core.List.{List, [], _∷_, map, flatMap}
 use lib.Dec.{leb}
 use lib.ListN.{length}
-use mir.Val.{boolByte}
 use Rattle.reads.specs.Reads.{Reads, done, _>>=_}
-use Rattle.reads.specs.Bits.{range}
+use Rattle.reads.specs.Bits.{digit, range}
 use Rattle.bit_matrix.specs.Pixels.{tryGet, ifSample}
 use Rattle.bit_matrix.specs.declared.Sample.{Sample}
 use Rattle.bit_matrix.specs.declared.Sample.the-variants.{Outside, Inside}
@@ -33,10 +32,6 @@ about x y = box (x - 1) (x + 2) (y - 1) (y + 2)
 abbrev pub ifCount : {B : Type 0} → B → (ℕ → B) → Count → B
 ifCount none some count.Outside = none
 ifCount none some (count.Black n) = some n
-
--- a bit as a number
-abbrev pub digit : Bool → ℕ
-digit black = boolByte black
 
 module _ (rowWords size width height : ℕ) where
   -- how many pixels of a list are black, beside those counted before; the first none ends it

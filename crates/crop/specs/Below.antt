@@ -2,6 +2,7 @@
 use Prim.Native.Nat.{ℕ, zero, suc, _+_, _*_, _^_}
 use mathlib.Core.Bool.{Bool, true, false, cond}
 use mathlib.Core.List.{List, [], _∷_, _++_}
+use Rattle.reads.specs.Bits.{digit}
 
 -- p holds of some number below n
 unfoldable pub anyBelow : (ℕ → Bool) → ℕ → Bool
@@ -12,10 +13,6 @@ anyBelow p (suc n) = cond (p n) true (anyBelow p n)
 unfoldable pub firsts : (ℕ → ℕ) → ℕ → List ℕ
 firsts f zero = []
 firsts f (suc n) = firsts f n ++ (f n ∷ [])
-
--- 1 for a set bit
-abbrev pub digit : Bool → ℕ
-digit b = cond b 1 0
 
 -- the number with the bits p 0, p 1, .. p (n - 1), from the least significant
 unfoldable pub number : (ℕ → Bool) → ℕ → ℕ

@@ -7,8 +7,8 @@ use mathlib.Core.Path.{_≡_, refl, sym, ap, ap₂, _∙_}
 use lib.Arith.{digits-mod}
 use lib.Dec.{eqb}
 use lib.Pow.{pow-add, pow-mono, high, field, mod-mod-pow, mod-pow-add, shr-shr}
-use Rattle.reads.specs.Bits.{testBit}
-use Rattle.crop.specs.Below.{digit, number}
+use Rattle.reads.specs.Bits.{digit, testBit}
+use Rattle.crop.specs.Below.{number}
 
 pub number-lt : (p : ℕ → Bool) (n : ℕ) → number p n < 2 ^ n
 unfolding number

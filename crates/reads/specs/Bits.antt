@@ -6,6 +6,11 @@ use mathlib.Core.List.{List, [], _∷_}
 use lib.ListN.{getD, set, replicate}
 use lib.Bits.{bitOr}
 use lib.Dec.{eqb}
+use mir.Val.{boolByte}
+
+-- a bit as a number
+abbrev pub digit : Bool → ℕ
+digit bit = boolByte bit
 
 -- bit b of w is set
 unfoldable pub testBit : ℕ → ℕ → Bool

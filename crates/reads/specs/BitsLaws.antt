@@ -3,7 +3,7 @@ use Prim.Native.Nat.{ℕ, zero, suc, _+_, _/_, _%_, _^_, _-_, _≤_, _<_}
 use native.Mathlib.Nat.{pow-suc, div-eq-of-lt, div-self, mul-mod-left, zero-div, suc-add}
 use native.Mathlib.Decide.{ℕ-discrete, decLt}
 use native.Mathlib.Omega.{arith}
-use mathlib.Core.Bool.{true, false, not, false≢true}
+use mathlib.Core.Bool.{Bool, true, false, not, false≢true}
 use mathlib.Core.Logic.{_⊎_, inl, inr, ⊎-elim, _↔_, _≢_}
 use mathlib.Core.Path.{_≡_, refl, sym, ap, _∙_}
 use mathlib.Core.List.{List, [], _∷_, _++_, List·Memᴰ, List·Memᴰ·head, List·Memᴰ·tail, List·Memᴰ·not-nil, List·Memᴰ·cases-cons}
@@ -12,9 +12,13 @@ use lib.Seq.{getD-set-same, getD-set-other, set-out}
 use lib.Bits.{bitOr, or-shr, or-mod, or-zero-r}
 use lib.Pow.{pow-pos, pow-add, pow-lt, shl-shr}
 use lib.Dec.{eqb}
-use Rattle.reads.specs.Bits.{testBit, setBit, bitAt, mark, markAll, zeros, range}
+use Rattle.reads.specs.Bits.{digit, testBit, setBit, bitAt, mark, markAll, zeros, range}
 
 -- ---- one word
+
+pub digit-low : (b : Bool) → digit b ≤ 1
+digit-low true = omega arith
+digit-low false = omega arith
 
 -- a bit of a union
 or-bit : (w v j : ℕ) → bitOr w v / 2 ^ j % 2 ≡ bitOr (w / 2 ^ j % 2) (v / 2 ^ j % 2)

@@ -1,8 +1,8 @@
 -- A row's pixels one by one. Definition only. Assumes nothing.
 use Prim.Native.Nat.{ℕ, zero, suc, _+_}
 use Rattle.reads.specs.Reads.{Reads, done, _>>=_}
+use Rattle.reads.specs.Bits.{digit}
 use Rattle.bit_matrix.specs.Pixels.{pixel}
-use Rattle.bit_matrix.specs.Area.{digit}
 
 module _ (rowWords size row : ℕ) where
   -- the black pixels among the n columns from x on, beside those counted before

@@ -7,12 +7,12 @@ use mathlib.Core.List.{List}
 use native.Mathlib.Omega.{arith}
 use borrow.Author.Needs.{needs}
 use lib.ListN.{length}
-use Rattle.reads.specs.Bits.{range}
+use Rattle.reads.specs.Bits.{digit, range}
+use Rattle.reads.specs.BitsLaws.{digit-low}
 use Rattle.reads.specs.Runs.{Ran, Resumes}
 use Rattle.reads.specs.RunsLaws.{ran-done, resumes-start, resumes-step, resumes-end}
 use Rattle.bit_matrix.specs.Pixels.{tryGet}
-use Rattle.bit_matrix.specs.Area.{digit, column, countBlack}
-use Rattle.bit_matrix.proofs.AreaLaws.{digit-low}
+use Rattle.bit_matrix.specs.Area.{column, countBlack}
 use Rattle.bit_matrix.specs.declared.Sample.{Sample}
 use Rattle.bit_matrix.specs.declared.Sample.the-variants.{Outside, Inside}
 use Rattle.bit_matrix.specs.declared.Count.the-variants as counts

@@ -8,11 +8,11 @@ use native.Mathlib.Nat.{sub-zero}
 use native.Mathlib.Omega.{arith}
 use borrow.Author.Needs.{needs}
 use lib.ListN.{length}
+use Rattle.reads.specs.Bits.{digit}
+use Rattle.reads.specs.BitsLaws.{digit-low}
 use Rattle.reads.specs.Runs.{Ran, Resumes}
 use Rattle.reads.specs.RunsLaws.{ran-done, resumes-start, resumes-step, resumes-end}
 use Rattle.bit_matrix.specs.Pixels.{pixel}
-use Rattle.bit_matrix.specs.Area.{digit}
-use Rattle.bit_matrix.proofs.AreaLaws.{digit-low}
 use Rattle.timed.specs.Row.{blackFrom}
 use Rattle.timed.proofs.count_row.Statement.{statement}
 use Rattle.timed.proofs.count_row.Tie as tie
