@@ -1,5 +1,5 @@
 #!/usr/bin/env python3
-"""The table of 360 sines: for each whole degree the nearest f32, zeros positive.
+"""The table of 360 sines: an f32 for every whole degree, rounded once; a zero has no sign.
 
     tools/sines.py rt      print the entries of SINES in crates/sines/src/lib.rt
     tools/sines.py antt    print the bit patterns in crates/sines/specs/Table.antt

@@ -3,7 +3,7 @@ ghost use mathlib.Core.Path.{_≡_};
 ghost use Prim.Native.Nat.{_^_, _<_};
 ghost use lib.ListN.{length};
 ghost use Rattle.reads.specs.Runs.{Ran};
-ghost use Rattle.timed.specs.Row.{blackFrom};
+ghost use Rattle.timed.specs.Row.{blackFrom, CountedRow};
 
 // How many of a row's first columns are black.
 fn count_row(words: &[u64], marks: &mut [u64], row_words: usize, row: u32, columns: u32) -> u32
@@ -20,7 +20,7 @@ fn count_row(words: &[u64], marks: &mut [u64], row_words: usize, row: u32, colum
     count
 }
 
-// The same for C; marks that do not fit the words are left alone.
+// The same for C. Marks that do not fit the words are left alone, and the answer is 0.
 #[no_mangle]
 pub extern "C" fn timed_count_row(
     words: &[u64],
@@ -29,7 +29,7 @@ pub extern "C" fn timed_count_row(
     row: u32,
     columns: u32,
 ) -> u32
-    ensures { λ r. ⌜ (length (now (marks .entry)) ≡ length (now (words .entry)) → Ran (blackFrom «row_words» (length (now (words .entry))) row columns 0 0) (now (words .entry)) (now (marks .entry)) r (now (marks .exit))) ⌝ }
+    ensures { λ r. ⌜ CountedRow (now (words .entry)) (now (marks .entry)) «row_words» row columns r (now (marks .exit)) ⌝ }
 {
     if marks.len() != words.len() {
         return 0;

@@ -48,6 +48,9 @@ mod choose {
     const OF_A_FAMILY: usize = 16;
     const OF_A_REFUSAL: usize = 8;
 
+    /// A folder's crops of this many bytes or more are left out, to keep the pack small.
+    const TOO_LONG: usize = 12_000;
+
     pub fn all(seeds: u64, folder: Option<&Path>) -> Vec<Vector> {
         let mut chosen = sample();
         chosen.extend(near_pairs());
@@ -252,21 +255,17 @@ mod choose {
         chosen
     }
 
-    /// The crops of a folder, by name.
+    /// The small crops of a folder, by name.
     fn stored_crops(folder: &Path) -> Vec<Vector> {
         let entries = std::fs::read_dir(folder).expect("the folder of crops");
         let mut paths: Vec<_> = entries.map(|e| e.expect("an entry").path()).collect();
         paths.sort();
         let vector = |path: &std::path::PathBuf| {
             let file = std::fs::read(path).expect("a crop");
-            let name = path
-                .file_stem()
-                .expect("a name")
-                .to_string_lossy()
-                .into_owned();
+            let stem = path.file_stem().expect("a name").to_string_lossy();
             let n = words_of(&file);
-            Vector::made(&name, &file, [n, 16_000, n], search_file)
+            (file.len() < TOO_LONG).then(|| Vector::made(&stem, &file, [n, 16_000, n], search_file))
         };
-        paths.iter().map(vector).collect()
+        paths.iter().filter_map(vector).collect()
     }
 }
