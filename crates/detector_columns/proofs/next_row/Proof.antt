@@ -1,0 +1,19 @@
+-- `detector_columns::next_row` meets its contract, by the test. Assumes nothing.
+use borrow.Author.Needs.{needs}
+use Rattle.detector_columns.proofs.next_row.Statement.{statement}
+use Rattle.detector_columns.proofs.next_row.Tie as tie
+
+add-result : tie.Need-add-result
+add-result c = search needs
+
+sub-result : tie.Need-sub-result
+sub-result c = search needs
+
+returns : tie.Need-returns
+returns c = rw (c .if1 .taken)
+
+returns-2 : tie.Need-returns-2
+returns-2 c = rw (c .if1 .left)
+
+pub next-row-spec : {M : Type 1} → statement M
+next-row-spec = tie.close (tie.spec add-result sub-result returns returns-2)

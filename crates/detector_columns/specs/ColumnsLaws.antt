@@ -1,0 +1,155 @@
+-- What holds of the vertical check on every image: no run is longer than the rows, so no sum overflows and the test of the widths is the source's.
+-- Assumes nothing.
+use Prim.Native.Nat.{ℕ, zero, suc, _+_, _-_, _*_, _≤_, _<_}
+use native.Mathlib.Decide.{decLt, ℕ-discrete}
+use native.Mathlib.Omega.{arith}
+use mathlib.Core.Path.{_≡_, refl, sym}
+use mathlib.Core.Bool.{Bool, true, false, cond}
+use mathlib.Core.List.{List, [], _∷_}
+use borrow.Author.Tests.{lt-ltb, le-ltb}
+use lib.Dec.{ltb}
+use lib.ListN.{length, set, replicate}
+use lib.Seq.{getD-set-same, getD-set-other, set-out}
+use Rattle.reads.specs.Reads.{Always}
+use Rattle.reads.specs.ReadsLaws.{always-done, always-bind, always-after, always-cond}
+use Rattle.reads.specs.BitsLaws.{getD-zeros}
+use Rattle.bit_matrix.specs.Pixels.{pixel}
+use Rattle.detector_widths.specs.Buckets.{bump}
+use Rattle.detector_widths.specs.Widths.{at, evenTotal, oddTotal, validWidths, validWidthsF32}
+use Rattle.detector_widths.specs.SameWidths.{same-widths}
+use Rattle.detector_columns.specs.Columns.{
+  pointerAfter,
+  rowsLeft,
+  vectorFrom,
+  columnVector,
+  potentialBullseyeArray,
+  potentialBullseye,
+  tryColumn,
+  verifyBullseyeVertical,
+}
+use Rattle.detector_columns.specs.declared.Verified.{Verified}
+
+-- no run is longer than `most`
+pub record AtMost (most : ℕ) (runs : List ℕ) : Type 0 where
+  pub run : (k : ℕ) → at runs k ≤ most
+
+-- ---- six runs
+
+-- a run grows by one at most
+pub bump-le : (buckets : List ℕ) (pointer k : ℕ) → at (bump buckets pointer) k ≤ at buckets k + 1
+unfolding bump
+bump-le buckets pointer k = go (decLt pointer (length buckets)) (ℕ-discrete k pointer)
+  where
+    go : Dec (pointer < length buckets) → Dec (k ≡ pointer) → at (set buckets pointer (at buckets pointer + 1)) k ≤ at buckets k + 1
+    go (yes h) (yes e) = rw e (rw (getD-set-same buckets pointer (at buckets pointer + 1) 0 h) (omega arith))
+    go (no h) (yes e) = rw (set-out buckets pointer (at buckets pointer + 1) (omega arith)) (omega arith)
+    go h (no other) = rw (getD-set-other buckets pointer k (at buckets pointer + 1) 0 other) (omega arith)
+
+pub rows-le : (lookingUp : Bool) (height row : ℕ) → rowsLeft lookingUp height row ≤ height
+unfolding rowsLeft
+rows-le true height row = go (ltb 0 row)
+  where
+    go : (b : Bool) → cond b (height - row) 0 ≤ height
+    go true = omega arith
+    go false = omega arith
+rows-le false height row = go (decLt row height)
+  where
+    go : Dec (row < height) → cond (ltb row height) row 0 ≤ height
+    go (yes h) = rw (lt-ltb row height h) (omega arith)
+    go (no h) = rw (le-ltb row height (omega arith)) (omega arith)
+
+module _ (rowWords size column : ℕ) (lookingUp : Bool) (most : ℕ) where
+  vector-from-le : (n row : ℕ) (last : Bool) (pointer : ℕ) (buckets : List ℕ)
+      → ((k : ℕ) → at buckets k + n ≤ most) → Always (AtMost most) (vectorFrom rowWords size column lookingUp n row last pointer buckets)
+  unfolding vectorFrom
+  vector-from-le zero row last pointer buckets room = always-done (record { run = λ k. omega (arith, room k) })
+  vector-from-le (suc n) row last pointer buckets room =
+      always-after (pixel rowWords size column row) _ λ black.
+      always-cond (ltb 5 (pointerAfter pointer black last))
+      (λ _. always-done (record { run = λ k. omega (arith, room k) }))
+      (λ _. vector-from-le n _ black _ _ λ k. omega (arith, room k, bump-le buckets (pointerAfter pointer black last) k))
+
+-- no run is longer than the rows
+pub column-vector-le : (rowWords size height column startRow : ℕ) (lookingUp : Bool)
+    → Always (AtMost height) (columnVector rowWords size height column startRow lookingUp)
+unfolding columnVector
+column-vector-le rowWords size height column startRow lookingUp =
+    vector-from-le rowWords size column lookingUp height (rowsLeft lookingUp height startRow) startRow false 0 (replicate 6 0)
+    λ k. rw (getD-zeros 6 k) (omega (arith, rows-le lookingUp height startRow))
+
+-- ---- eleven runs
+
+-- what holds of the runs of a column
+pub record Bounded (height : ℕ) (buckets : List ℕ) : Type 0 where
+  pub eleven : length buckets ≡ 11
+  pub each : AtMost (2 * height) buckets
+  pub evens : evenTotal buckets ≤ 6 * height
+  pub odds : oddTotal buckets ≤ 4 * height
+
+cons-most : {run most : ℕ} {runs : List ℕ} → run ≤ most → AtMost most runs → AtMost most (run ∷ runs)
+cons-most {run} {most} {runs} first rest = record { run = go }
+  where
+    go : (k : ℕ) → at (run ∷ runs) k ≤ most
+    go zero = first
+    go (suc k) = rest .run k
+
+nil-most : {most : ℕ} → AtMost most []
+nil-most = record { run = λ k. omega arith }
+
+array-bounded : {height : ℕ} {v w : List ℕ} → AtMost height v → AtMost height w → Bounded height (potentialBullseyeArray v w)
+array-bounded {height} {v} {w} down up =
+    let below : (k : ℕ) → at v k ≤ 2 * height = λ k. omega (arith, down .run k) in
+    let above : (k : ℕ) → at w k ≤ 2 * height = λ k. omega (arith, up .run k) in
+    record {
+      eleven = refl;
+      each =
+          cons-most (below 5) (cons-most (below 4) (cons-most (below 3) (cons-most (below 2) (cons-most (below 1)
+          (cons-most (omega (arith, down .run 0, up .run 0))
+          (cons-most (above 1) (cons-most (above 2) (cons-most (above 3) (cons-most (above 4) (cons-most (above 5) nil-most))))))))));
+      evens = omega (arith, down .run 5, down .run 3, down .run 1, up .run 1, up .run 3, up .run 5);
+      odds = omega (arith, down .run 4, down .run 2, up .run 2, up .run 4);
+    }
+
+module _ (rowWords size height row : ℕ) where
+  pub potential-bounded : (column : ℕ) → Always (Bounded height) (potentialBullseye rowWords size height row column)
+  unfolding potentialBullseye
+  potential-bounded column =
+      always-bind _ (column-vector-le rowWords size height column row true) λ up up-le.
+      always-bind _ (column-vector-le rowWords size height column row false) λ down down-le.
+      always-done (array-bounded down-le up-le)
+
+  -- the test made of a column's runs is the source's, in f32
+  pub same-test-f32 : height ≤ 2048 → (column : ℕ)
+      → Always (λ (buckets : List ℕ). validWidthsF32 buckets ≡ validWidths buckets) (potentialBullseye rowWords size height row column)
+  same-test-f32 low column = record {
+    on = λ image.
+        let bounded = potential-bounded column .on image in
+        same-widths _ (omega (arith, bounded .evens)) (omega (arith, bounded .odds));
+  }
+
+  -- what holds of every column's check holds of the answer
+  always-verified : {P : Verified → Type 0} → ((column : ℕ) → Always P (tryColumn rowWords size height row column))
+      → (column : ℕ) → Always P (verifyBullseyeVertical rowWords size height row column)
+  unfolding verifyBullseyeVertical
+  always-verified {P} tried column =
+      always-bind _ (tried column) λ here here-holds.
+      always-cond (here .good) (λ _. always-done here-holds) λ _.
+      always-bind _ (tried _) λ right right-holds.
+      always-cond (right .good) (λ _. always-done right-holds) λ _. tried _
+
+  try-bounded : (column : ℕ) → Always (λ (verified : Verified). Bounded height (verified .buckets)) (tryColumn rowWords size height row column)
+  unfolding tryColumn
+  try-bounded column = always-bind _ (potential-bounded column) λ buckets bounded. always-done bounded
+
+  pub verified-bounded : (column : ℕ)
+      → Always (λ (verified : Verified). Bounded height (verified .buckets)) (verifyBullseyeVertical rowWords size height row column)
+  verified-bounded = always-verified try-bounded
+
+  try-f32 : height ≤ 2048 → (column : ℕ)
+      → Always (λ (verified : Verified). verified .good ≡ validWidthsF32 (verified .buckets)) (tryColumn rowWords size height row column)
+  unfolding tryColumn
+  try-f32 low column = always-bind _ (same-test-f32 low column) λ buckets same. always-done (sym same)
+
+  pub verified-f32 : height ≤ 2048 → (column : ℕ)
+      → Always (λ (verified : Verified). verified .good ≡ validWidthsF32 (verified .buckets)) (verifyBullseyeVertical rowWords size height row column)
+  verified-f32 low = always-verified (try-f32 low)
