@@ -8,7 +8,7 @@ use mathlib.Core.Logic.{_≢_}
 use lib.Dec.{T, leb, eqb, nleb→lt, ltb→lt, lt→ltb}
 use lib.IntN.{pos}
 use lib.Pow.{pow-pos}
-use lib.Ieee.{Float, nan, inf, fin, Format, binary64, prec, low, up, down, hid, ones, odd, lt, fits, isNan, ofFields, ofBits, toBits}
+use lib.Ieee.{Float, nan, inf, fin, Format, binary64, prec, low, up, down, hid, ones, top, odd, lt, fits, isNan, ofFields, ofBits, toBits}
 use lib.Ieee.Exact.{HasValue, odd-sign}
 use lib.Ieee.Bits.{ofBits-toBits}
 use lib.Ieee.Positive.{positive, value-pos}
@@ -40,17 +40,17 @@ sign-of (fin true m e) s a c p v = absurd p
 sign-of (fin false m e) s a c p v = sym (v .0)
 
 -- ---- the fields
-abbrev digits : Format → ℕ → ℕ → ℕ
+abbrev pub digits : Format → ℕ → ℕ → ℕ
 digits f zero t = t
 digits f (suc y) t = hid f + t
 
-abbrev places : ℕ → ℕ
+abbrev pub places : ℕ → ℕ
 places zero = 0
 places (suc y) = y
 
-record InFields (f : Format) (x : Float) (s : Bool) (y t : ℕ) : Type 0 where
-  value : HasValue x s (digits f y t * 2 ^ places y) (2 ^ low f)
-  below : y ≡ ones f → ⊥
+pub record InFields (f : Format) (x : Float) (s : Bool) (y t : ℕ) : Type 0 where
+  pub value : HasValue x s (digits f y t * 2 ^ places y) (2 ^ low f)
+  pub below : y ≡ ones f → ⊥
 
 no-inf : (b s : Bool) → T (positive (cond b (inf s) nan)) → ⊥
 no-inf true s p = p
@@ -73,39 +73,50 @@ in-fields f s (suc y) t p = go (eqb (suc y) (ones f)) (eqb-false (suc y) (ones f
 below-top : (t b : ℕ) → leb t b ≡ false → b < t
 below-top t b h = nleb→lt t b (subst (λ (k : Bool). T (not k)) (sym h) tt)
 
+pub record Plain (f : Format) (x : Float) (b : ℕ) : Type 0 where
+  pub unsigned : b < top f
+  pub fields : InFields f x false (b / hid f) (b % hid f)
+
+pub plain : (f : Format) (x : Float) → T (fits f x) → T (positive x) → Plain f x (toBits f x)
+unfolding ofBits
+plain f x fit p =
+    let b = toBits f x in
+    let s = leb (top f) b in
+    let back : ofFields f s (b % top f / hid f) (b % hid f) ≡ x = ofBits-toBits f x fit in
+    let is : InFields f x s (b % top f / hid f) (b % hid f) =
+    subst (λ (v : Float). InFields f v s (b % top f / hid f) (b % hid f)) back
+    (in-fields f s (b % top f / hid f) (b % hid f) (subst (λ (v : Float). T (positive v)) (sym back) p)) in
+    let plus : s ≡ false = sign-of x s _ (2 ^ low f) p (is .value) in
+    let unsigned : b < top f = below-top (top f) b plus in
+    let field : b % top f / hid f ≡ b / hid f = ap (λ (k : ℕ). k / hid f) (mod-eq-of-lt unsigned) in
+    record {
+      unsigned = unsigned;
+      fields = subst (λ (t : Bool). InFields f x t (b / hid f) (b % hid f)) plus (subst (λ (y : ℕ). InFields f x s y (b % hid f)) field is);
+    }
+
 pub record Pattern (x : Float) (b : ℕ) : Type 0 where
   pub bound : b < 2047 * 2 ^ 52
   pub small : b / 2 ^ 52 ≡ 0 → (b * 1 ≡ unitsOf binary64 x) × (0 < b)
   pub large : (h : ℕ) → b / 2 ^ 52 ≡ suc h → (2 ^ 52 + b % 2 ^ 52) * 2 ^ h ≡ unitsOf binary64 x
 
 pub pattern : (x : Float) → T (fits binary64 x) → T (positive x) → Pattern x (toBits binary64 x)
-unfolding ofBits
-pattern x fit p =
-    let b = toBits binary64 x in
-    let s = leb (2 ^ 63) b in
-    let back : ofFields binary64 s (b % 2 ^ 63 / 2 ^ 52) (b % 2 ^ 52) ≡ x = ofBits-toBits binary64 x fit in
-    let is : InFields binary64 x s (b % 2 ^ 63 / 2 ^ 52) (b % 2 ^ 52) =
-    subst (λ (v : Float). InFields binary64 v s (b % 2 ^ 63 / 2 ^ 52) (b % 2 ^ 52)) back
-    (in-fields binary64 s (b % 2 ^ 63 / 2 ^ 52) (b % 2 ^ 52) (subst (λ (v : Float). T (positive v)) (sym back) p)) in
-    let unsigned : b < 2 ^ 63 = below-top (2 ^ 63) b (sign-of x s _ (2 ^ 1074) p (is .value)) in
-    let field : b % 2 ^ 63 / 2 ^ 52 ≡ b / 2 ^ 52 = ap (λ (k : ℕ). k / 2 ^ 52) (mod-eq-of-lt unsigned) in
-    go b s unsigned (sign-of x s _ (2 ^ 1074) p (is .value)) (subst (λ (y : ℕ). InFields binary64 x s y (b % 2 ^ 52)) field is)
+pattern x fit p = go (toBits binary64 x) (plain binary64 x fit p)
   where
-    go : (b : ℕ) (s : Bool) → b < 2 ^ 63 → s ≡ false → InFields binary64 x s (b / 2 ^ 52) (b % 2 ^ 52) → Pattern x b
-    go b s unsigned plus is = record {
-      bound = omega (arith, not-all-ones);
-      small = λ z. (sym (units-of-value binary64 x s (b * 1) (low-value z)), value-pos x b (2 ^ 1074) p (pow-pos 1074) (low-plus z));
-      large = λ h e. sym (units-of-value binary64 x s ((2 ^ 52 + b % 2 ^ 52) * 2 ^ h) (high-value h e));
+    go : (b : ℕ) → Plain binary64 x b → Pattern x b
+    go b is = record {
+      bound = omega (arith, is .unsigned, not-all-ones);
+      small = λ z. (sym (units-of-value binary64 x false (b * 1) (low-value z)), value-pos x b (2 ^ 1074) p (pow-pos 1074) (low-plus z));
+      large = λ h e. sym (units-of-value binary64 x false ((2 ^ 52 + b % 2 ^ 52) * 2 ^ h) (high-value h e));
     }
       where
         not-all-ones : b / 2 ^ 52 ≢ 2047
-        not-all-ones = is .below
+        not-all-ones = is .fields .below
 
-        high-value : (h : ℕ) → b / 2 ^ 52 ≡ suc h → HasValue x s ((2 ^ 52 + b % 2 ^ 52) * 2 ^ h) (2 ^ 1074)
-        high-value h e = (subst (λ (y : ℕ). InFields binary64 x s y (b % 2 ^ 52)) e is) .value
+        high-value : (h : ℕ) → b / 2 ^ 52 ≡ suc h → HasValue x false ((2 ^ 52 + b % 2 ^ 52) * 2 ^ h) (2 ^ 1074)
+        high-value h e = (subst (λ (y : ℕ). InFields binary64 x false y (b % 2 ^ 52)) e (is .fields)) .value
 
-        low-value : b / 2 ^ 52 ≡ 0 → HasValue x s (b * 1) (2 ^ 1074)
-        low-value z = subst (λ (k : ℕ). HasValue x s (k * 1) (2 ^ 1074)) (omega arith) ((subst (λ (y : ℕ). InFields binary64 x s y (b % 2 ^ 52)) z is) .value)
+        low-value : b / 2 ^ 52 ≡ 0 → HasValue x false (b * 1) (2 ^ 1074)
+        low-value z = subst (λ (k : ℕ). HasValue x false (k * 1) (2 ^ 1074)) (omega arith) ((subst (λ (y : ℕ). InFields binary64 x false y (b % 2 ^ 52)) z (is .fields)) .value)
 
         low-plus : b / 2 ^ 52 ≡ 0 → HasValue x false b (2 ^ 1074)
-        low-plus z = subst (λ (k : ℕ). HasValue x false k (2 ^ 1074)) (mul-one b) (subst (λ (t : Bool). HasValue x t (b * 1) (2 ^ 1074)) plus (low-value z))
+        low-plus z = subst (λ (k : ℕ). HasValue x false k (2 ^ 1074)) (mul-one b) (low-value z)

@@ -6,7 +6,7 @@ use mathlib.Core.Path.{_≡_}
 use mathlib.Core.Bool.{Bool, true, false, not}
 use mathlib.Core.Logic.{_⊎_, inl, inr, ⊎-elim}
 use lib.Dec.{T, leb, leb→le, nleb→lt}
-use lib.Pow.{pow-lt}
+use lib.Pow.{pow-mono, pow-lt}
 
 pub le-or-lt : (i j : ℕ) → (i ≤ j) ⊎ (j < i)
 le-or-lt i j = go (leb i j) (leb→le i j) (nleb→lt i j)
@@ -17,6 +17,9 @@ le-or-lt i j = go (leb i j) (leb→le i j) (nleb→lt i j)
 
 pub exponent-le : (i j : ℕ) → 2 ^ i ≤ 2 ^ j → i ≤ j
 exponent-le i j h = ⊎-elim (λ l. l) (λ g. absurd (lt-irrefl (2 ^ j) (lt-of-lt-of-le (pow-lt g) h))) (le-or-lt i j)
+
+pub exponent-lt : (i j : ℕ) → 2 ^ i < 2 ^ j → i < j
+exponent-lt i j h = ⊎-elim (λ l. absurd (lt-irrefl (2 ^ i) (lt-of-lt-of-le h (pow-mono l)))) (λ g. g) (le-or-lt j i)
 
 -- ---- squares
 pub square-lt : (a b : ℕ) → a < b → a * a < b * b

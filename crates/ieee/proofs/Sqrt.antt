@@ -13,6 +13,8 @@ use lib.Ieee.Positive.{positive}
 use borrow.Author.Tests.{ltb-false}
 use Rattle.ieee.specs.Sqrt.{sqrt, roundRoot, unitsOf}
 use Rattle.ieee.proofs.Numbers.{lt-of-square-lt, odd-square, Odd}
+use Rattle.ieee.proofs.Isqrt.{IsRoot}
+use Rattle.ieee.proofs.OddRoot.{IsOddRoot, root-above}
 use Rattle.ieee.proofs.Sign.{not-zero, zero-level}
 use Rattle.ieee.proofs.Written.{Written, written}
 
@@ -58,16 +60,14 @@ radicand n d₀ e₀ d c parts fours =
     ∙ ap (λ (x : ℕ). x * 2 ^ 54) (fours ∙ ap (λ (x : ℕ). d₀ * x) (pow-add 2 e₀ 1020) ∙ sym (mul-assoc d₀ (2 ^ e₀) (2 ^ 1020)))
     ∙ mul-assoc (d₀ * 2 ^ e₀) (2 ^ 1020) (2 ^ 54))
 
--- the numbers that the program has: the digits and the exponent by fours, and the root
-pub record Found (x : Float) (d₀ e₀ d i g : ℕ) : Type 0 where
+-- the numbers that the program has: the digits and the exponent by fours
+pub record Found (x : Float) (d₀ e₀ d i : ℕ) : Type 0 where
   pub parts : d₀ * 2 ^ e₀ ≡ unitsOf binary64 x
   pub few : e₀ < 2046
   pub fours : d * (2 ^ i * 2 ^ i) ≡ d₀ * 2 ^ (e₀ + 1020)
   pub low-d : 2 ^ 52 ≤ d
   pub high-d : d + 1 < 2 ^ 54
   pub halved : i * 2 ≤ e₀ + 1020
-  pub below : g * g ≤ d * 2 ^ 54
-  pub above : d * 2 ^ 54 < (g + 1) * (g + 1)
 
 pub root-high : (d g : ℕ) → d + 1 < 2 ^ 54 → g * g ≤ d * 2 ^ 54 → g + 1 < 2 ^ 54
 root-high d g high below =
@@ -79,13 +79,19 @@ root-low d g low above =
     let lt : 2 ^ 53 < g + 1 = lt-of-square-lt (2 ^ 53) (g + 1) (omega arith) in
     omega arith
 
-pub sqrt-found : (x : Float) (d₀ e₀ d i g : ℕ) → T (positive x) → Found x d₀ e₀ d i g → Written (sqrt binary64 x) ((i + 1) * 2 ^ 52 + (g + 1) / 2)
-sqrt-found x d₀ e₀ d i g p h =
+sqrt-root : (x : Float) (d₀ e₀ d i g : ℕ) → T (positive x) → Found x d₀ e₀ d i → IsRoot (d * 2 ^ 54) g → Written (sqrt binary64 x) ((i + 1) * 2 ^ 52 + (g + 1) / 2)
+sqrt-root x d₀ e₀ d i g p h root =
     subst (λ (r : Float). Written r ((i + 1) * 2 ^ 52 + (g + 1) / 2))
     (sym (sqrt-positive binary64 x p ∙ ap (roundRoot binary64) (radicand (unitsOf binary64 x) d₀ e₀ d (2 ^ i) (h .parts) (h .fours))))
-    (written (d * 2 ^ 54) g i (record { below = h .below; above = h .above }) (root-low d g (h .low-d) (h .above)) (root-high d g (h .high-d) (h .below))
+    (written (d * 2 ^ 54) g i root (root-low d g (h .low-d) (root .above)) (root-high d g (h .high-d) (root .below))
     (λ o e. odd-square (g / 2) d (2 ^ 53) (ap (λ (k : ℕ). k * k) (halves o) ∙ e))
     (omega (arith, h .few, h .halved)))
   where
     halves : g % 2 ≡ 1 → Odd (g / 2) ≡ g
     halves o = omega arith
+
+-- the root, or the odd number just below it: half of either, rounded up, is the same
+pub sqrt-found : (x : Float) (d₀ e₀ d i r : ℕ) → T (positive x) → Found x d₀ e₀ d i → IsOddRoot (d * 2 ^ 54) r → Written (sqrt binary64 x) ((i + 1) * 2 ^ 52 + (r + 1) / 2)
+sqrt-found x d₀ e₀ d i r p h odd =
+    let root = root-above (d * 2 ^ 54) r odd in
+    subst (λ (k : ℕ). Written (sqrt binary64 x) ((i + 1) * 2 ^ 52 + k)) (root .1 .1) (sqrt-root x d₀ e₀ d i (root .0) p h (root .1 .0))

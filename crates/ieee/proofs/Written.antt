@@ -6,7 +6,7 @@ use mathlib.Core.Path.{_≡_, sym, ap, _∙_, subst}
 use mathlib.Core.Bool.{Bool, false, not}
 use lib.Dec.{T}
 use lib.Pow.{pow-add, pow-mono, shl-lt, shl-shr}
-use lib.Ieee.{Float, nan, inf, fin, Format, prec, low, hid, binary64, size, units, isNan, toBits, ofBits, nanBits}
+use lib.Ieee.{Float, nan, inf, fin, Format, prec, low, hid, binary64, size, units, fits, isNan, toBits, ofBits, nanBits}
 use lib.Ieee.Fits.{two}
 use lib.Ieee.Exact.{HasValue, units-val}
 use lib.Ieee.Bits.{ofBits-toBits, nanBits-is}
@@ -40,6 +40,10 @@ value-bits f x q k low-q high-q v =
 pub record Written (r : Float) (b : ℕ) : Type 0 where
   pub no-nan : T (not (nanBits binary64 b))
   pub reads : ofBits binary64 b ≡ r
+
+-- a value that has this pattern is r
+pub already : {r : Float} {b : ℕ} (y : Float) → Written r b → T (fits binary64 y) → toBits binary64 y ≡ b → y ≡ r
+already y w fit e = sym (ofBits-toBits binary64 y fit) ∙ ap (ofBits binary64) e ∙ w .reads
 
 finite-not-nan : (x : Float) (s : Bool) (a c : ℕ) → HasValue x s a c → T (not (isNan x))
 unfolding isNan

@@ -1,8 +1,11 @@
 // Rust's casts of a float to an integer: toward zero, to the nearest end of the range where the float
 // is out of it, and 0 for a NaN.
 ghost use mathlib.Core.Path.{_≡_};
+ghost use mathlib.Core.Bool.{false};
+ghost use lib.Dec.{T};
+ghost use lib.IntN.{pos};
 ghost use lib.Ieee as Ieee;
-ghost use lib.Ieee.{binary32, binary64};
+ghost use lib.Ieee.{fin, binary32, binary64};
 ghost use Rattle.ieee.specs.Integral.{floor, roundTiesToAway};
 
 // Rust's `x as u64`. A NaN is not above -1.0, and goes the way of the negative numbers.
@@ -28,27 +31,30 @@ pub fn saturating_f64_to_u32(x: f64) -> u32
     if n < 4294967296 { n as u32 } else { u32::MAX }
 }
 
-// Rust's `x as u32`.
+// The whole part of an x from 1 to below 2 ^ 32. x is its 24 digits * 2 ^ (field - 150), so that with 32
+// digits a shift to the right is enough.
+fn whole_part(x: f32) -> u32
+    requires { ⌜ T (Ieee.le (fin false 1 (pos 0)) x) ⌝ ∗ ⌜ T (Ieee.lt x (fin false 1 (pos 32))) ⌝ }
+    ensures { λ r. ⌜ r ≡ Ieee.toUnsigned 32 x ⌝ }
+{
+    let bits = f32::to_bits(x) as u64;
+    let digits = 0x80_0000 + bits % 0x80_0000;
+    let field = bits / 0x80_0000;
+    (digits * 256 >> (158 - field)) as u32
+}
+
+// Rust's `x as u32`. A NaN is not at least 1, and goes the way of the small numbers.
 pub fn saturating_f32_to_u32(x: f32) -> u32
     ensures { λ r. ⌜ r ≡ Ieee.toUnsigned 32 x ⌝ }
 {
-    saturating_f64_to_u32(std::num::f32_to_f64_with_nan(x))
-}
-
-// Rust's `x as i32`.
-fn saturating_f64_to_i32(x: f64) -> i32
-    ensures { λ r. ⌜ r ≡ Ieee.toSigned 31 x ⌝ }
-{
-    if x < 0.0 {
-        let n = saturating_f64_to_u64(-x);
-        if n < 2147483648 {
-            0 - (n as i32)
+    if x >= 1.0 {
+        if x < 4294967296.0 {
+            whole_part(x)
         } else {
-            i32::MIN
+            u32::MAX
         }
     } else {
-        let n = saturating_f64_to_u64(x);
-        if n < 2147483648 { n as i32 } else { i32::MAX }
+        u32::MIN
     }
 }
 
@@ -56,7 +62,22 @@ fn saturating_f64_to_i32(x: f64) -> i32
 pub fn saturating_f32_to_i32(x: f32) -> i32
     ensures { λ r. ⌜ r ≡ Ieee.toSigned 31 x ⌝ }
 {
-    saturating_f64_to_i32(std::num::f32_to_f64_with_nan(x))
+    let opposite = -x;
+    if x >= 1.0 {
+        if x < 2147483648.0 {
+            whole_part(x) as i32
+        } else {
+            i32::MAX
+        }
+    } else if opposite >= 1.0 {
+        if opposite < 2147483648.0 {
+            0 - (whole_part(opposite) as i32)
+        } else {
+            i32::MIN
+        }
+    } else {
+        0
+    }
 }
 
 // Rust's `x.floor() as u32`. Below zero the floor is cast to 0, as x is, so the cast alone does it.

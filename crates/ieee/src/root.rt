@@ -1,12 +1,15 @@
-// The square root, a binary digit a turn.
+// The square root: an estimate in floats, tested and mended in whole numbers. Where the estimate is
+// no good, a binary digit a turn.
 ghost use mathlib.Core.Path.{_≡_};
 ghost use mathlib.Core.Bool.{false};
-ghost use Prim.Native.Nat.{_+_, _*_, _^_, _≤_, _<_};
+ghost use Prim.Native.Nat.{_+_, _-_, _*_, _%_, _^_, _≤_, _<_};
 ghost use lib.Dec.{T};
 ghost use lib.IntN.{pos};
 ghost use lib.Ieee as Ieee;
 ghost use lib.Ieee.{fin, inf, binary64};
 ghost use Rattle.ieee.specs.Sqrt.{unitsOf, sqrt};
+use crate::bits::bits_of_f64;
+use crate::bits::f64_of_bits;
 
 // The weight of the exponent's field in a bit pattern, and of the leading digit that is not written.
 const HIDDEN: u64 = 0x10_0000_0000_0000;
@@ -96,16 +99,92 @@ fn root_of(digits: u64) -> u64
     root
 }
 
+// What digits * 2 ^ 54 has above the square of a root that is just below its own, and u64::MAX at any
+// other. For a root a * 2 ^ 27 + b it is ((digits - a * a) * 2 ^ 26 - a * b) * 2 ^ 28 - b * b, and each test
+// keeps the next step within a word.
+fn remainder(digits: u64, root: u64) -> u64
+    requires { ⌜ (digits < 2 ^ 54) × (root < 2 ^ 54) ⌝ }
+    ensures { λ r. ⌜ (r < 2 ^ 64 - 1 → root * root + r ≡ digits * 2 ^ 54) ⌝ }
+{
+    let a = root / 0x800_0000;
+    let b = root % 0x800_0000;
+    let aa = a * a;
+    if digits < aa {
+        return u64::MAX;
+    }
+    let high = digits - aa;
+    if high > 0x4000_0000 {
+        return u64::MAX;
+    }
+    let middle = high * 0x400_0000;
+    let ab = a * b;
+    if middle < ab {
+        return u64::MAX;
+    }
+    let low = middle - ab;
+    if low > 0x8_0000_0000 {
+        return u64::MAX;
+    }
+    let all = low * 0x1000_0000;
+    let bb = b * b;
+    if all < bb {
+        return u64::MAX;
+    }
+    all - bb
+}
+
+// About √x: from a guess that halves the exponent, three steps of Newton's method for 1 / √x, and one for
+// √x. Nothing is proved of it, and `odd_root` tests it.
+fn estimate(x: f64) -> f64 {
+    let half = x * 0.5;
+    let guess = f64_of_bits(0x5fe6_eb50_c7b5_37a9 - bits_of_f64(x) % 0x8000_0000_0000_0000 / 2);
+    let first = guess * (1.5 - half * guess * guess);
+    let second = first * (1.5 - half * first * first);
+    let third = second * (1.5 - half * second * second);
+    let root = x * third;
+    root + (x - root * root) * (third * 0.5)
+}
+
+// The largest odd number whose square is at most digits * 2 ^ 54. The 53 digits of a good estimate are one
+// off at most, and the remainder at the lowest of the three odd numbers tells which it is.
+fn odd_root(digits: u64, near: f64) -> u64
+    requires { ⌜ (0 < digits) × (digits < 2 ^ 54) ⌝ }
+    ensures { λ r. ⌜ (r % 2 ≡ 1) × (r * r ≤ digits * 2 ^ 54) × (digits * 2 ^ 54 < (r + 2) * (r + 2)) ⌝ }
+{
+    let low = (HIDDEN + bits_of_f64(near) % HIDDEN) * 2 - 3;
+    let above = remainder(digits, low);
+    if above < low * 12 + 36 {
+        if above < low * 4 + 4 {
+            low
+        } else if above < low * 8 + 16 {
+            low + 2
+        } else {
+            low + 4
+        }
+    } else {
+        let root = root_of(digits);
+        root - 1 + root % 2
+    }
+}
+
 // The root of a positive finite x. With 54 digits of it the last one decides: a root of exactly 54 digits,
-// the last of them 1, would be half way between two values, and its square would be odd.
+// the last of them 1, would be half way between two values, and its square would be odd. Half of the root,
+// rounded up, is half of the odd number at or below it, rounded up. An estimate that is right goes out as
+// it stands: a processor that foresees the branch goes on with it before it is tested.
 fn positive_sqrt(x: f64) -> f64
     requires { ⌜ T (Ieee.lt (fin false 0 (pos 0)) x) ⌝ ∗ ⌜ T (Ieee.lt x (inf false)) ⌝ }
     ensures { λ r. ⌜ r ≡ sqrt binary64 x ⌝ }
 {
     let p = parts_of(x);
     let q = by_fours(p.digits, p.exponent + 1020);
-    let root = root_of(q.digits);
-    f64::from_bits((q.exponent + 1) * HIDDEN + (root + 1) / 2)
+    let near = estimate(x);
+    let root = odd_root(q.digits, near);
+    let bits = (q.exponent + 1) * HIDDEN + (root + 1) / 2;
+    if bits_of_f64(near) == bits {
+        near
+    } else {
+        f64::from_bits(bits)
+    }
 }
 
 // Rust's `x.sqrt()`, correctly rounded: a zero gives itself, and anything else that is not positive
