@@ -18,7 +18,8 @@ use borrow.Author.Tests.{ne-eqb}
 use Rattle.ieee.specs.Sign.{abs}
 use Rattle.rxing_result_point.specs.Points.{real}
 use Rattle.detector_widths.specs.Widths.{passes, moduleSize, passesF32}
-use Rattle.detector_widths.specs.RoundedOrder.{abs-round, Plain, round-plain, round-not-less, round-under, round-over, round-less}
+use Rattle.ieee.specs.RoundLaws.{abs-round, Plain}
+use Rattle.detector_widths.specs.RoundedOrder.{rounded-plain, round-not-less, round-under, round-over, round-less}
 
 -- how far two numbers lie apart
 abbrev gap : ℕ → ℕ → ℕ
@@ -144,7 +145,7 @@ unfolding passesF32
 same-test total b few small =
     let M = round binary32 false total 5 in
     let fits : total ≤ 2 ^ 24 * 5 = omega arith in
-    let value : Plain M = round-plain total 5 (lit< tt) fits in
+    let value : Plain M = rounded-plain total 5 (lit< tt) fits in
     let M-is : moduleSize total ≡ M = div-whole (real total) (real 5) total 1 5 (lit< tt) (lit< tt) (real-value total (omega arith)) (real-value 5 (omega arith)) in
     ap (λ (x : Float). lt (abs (sub binary32 x (real b))) (div binary32 x (real 2))) M-is
     ∙ ap₂ lt (abs-sub M (real b) (num M) (den M) b (den-pos M) value (real-value b small)) (div-whole M (real 2) (num M) (den M) 2 (den-pos M) (lit< tt) value (real-value 2 (omega arith)))

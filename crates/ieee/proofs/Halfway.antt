@@ -11,7 +11,7 @@ use lib.Arith.{lt-of-le-ne}
 use lib.Pow.{pow-pos, pow-add, pow-mono}
 use lib.Ieee.Nearest.{closest}
 use Rattle.ieee.proofs.Numbers.{le-or-lt, Odd, odd-square, square-lt}
-use Rattle.ieee.proofs.Isqrt.{IsRoot}
+use Rattle.ieee.specs.IsqrtLaws.{IsRoot}
 use Rattle.ieee.proofs.Closest.{closest-cases}
 use Rattle.ieee.proofs.Rounded.{doubled, at-most-one}
 

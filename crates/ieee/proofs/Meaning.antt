@@ -15,7 +15,7 @@ use lib.Ieee.Positive.{positive, value-pos}
 use Rattle.ieee.specs.Sqrt.{sqrt, unitsOf, isqrt, roundRoot}
 use Rattle.ieee.specs.CorrectlyRounded.{RootOf, NearestRoot}
 use Rattle.ieee.proofs.Numbers.{Odd, le-or-lt}
-use Rattle.ieee.proofs.Isqrt.{IsRoot, isqrt-is}
+use Rattle.ieee.specs.IsqrtLaws.{IsRoot, isqrt-is}
 use Rattle.ieee.proofs.Rounded.{root-fits, doubled, round-doubled}
 use Rattle.ieee.proofs.Units.{positive-value, under, units-of-value, Shape, shape, units-injective}
 use Rattle.ieee.proofs.Sqrt.{sqrt-positive}

@@ -6,7 +6,7 @@ use native.Mathlib.Omega.{arith}
 use mathlib.Core.Path.{_≡_, refl}
 use mathlib.Core.Logic.{⊎-elim}
 use Rattle.ieee.proofs.Numbers.{le-or-lt}
-use Rattle.ieee.proofs.Isqrt.{IsRoot}
+use Rattle.ieee.specs.IsqrtLaws.{IsRoot}
 
 pub record IsOddRoot (n r : ℕ) : Type 0 where
   pub odd : r % 2 ≡ 1

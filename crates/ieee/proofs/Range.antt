@@ -10,7 +10,7 @@ use lib.Ieee.{Format, binary32, binary64, prec, emax, low, size}
 use lib.Ieee.Digits.{size-lt, size-reaches}
 use lib.Ieee.Fits.{two}
 use Rattle.ieee.proofs.Numbers.{lt-of-square-lt, le-or-lt, Odd, square-mul}
-use Rattle.ieee.proofs.Isqrt.{IsRoot}
+use Rattle.ieee.specs.IsqrtLaws.{IsRoot}
 use Rattle.ieee.proofs.Halfway.{no-square}
 
 -- ---- the formats

@@ -14,7 +14,8 @@ use lib.Ieee.Nearest.{closest, closest-same}
 use lib.Ieee.Fits.{core, round-is, round-fits}
 use Rattle.ieee.specs.Sqrt.{roundRoot, isqrt}
 use Rattle.ieee.proofs.Numbers.{le-or-lt}
-use Rattle.ieee.proofs.Isqrt.{IsRoot, scaled-below, isqrt-is, scaled-above, scaled-exact}
+use Rattle.ieee.specs.IsqrtLaws.{IsRoot, isqrt-is}
+use Rattle.ieee.proofs.Isqrt.{scaled-below, scaled-above, scaled-exact}
 use Rattle.ieee.proofs.Closest.{half-digit}
 
 -- ---- how many digits a number has

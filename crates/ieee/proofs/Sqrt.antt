@@ -13,7 +13,7 @@ use lib.Ieee.Positive.{positive}
 use borrow.Author.Tests.{ltb-false}
 use Rattle.ieee.specs.Sqrt.{sqrt, roundRoot, unitsOf}
 use Rattle.ieee.proofs.Numbers.{lt-of-square-lt, odd-square, Odd}
-use Rattle.ieee.proofs.Isqrt.{IsRoot}
+use Rattle.ieee.specs.IsqrtLaws.{IsRoot}
 use Rattle.ieee.proofs.OddRoot.{IsOddRoot, root-above}
 use Rattle.ieee.proofs.Sign.{not-zero, zero-level}
 use Rattle.ieee.proofs.Written.{Written, written}

@@ -11,7 +11,7 @@ use lib.Ieee.Fits.{two}
 use lib.Ieee.Exact.{HasValue, units-val}
 use lib.Ieee.Bits.{ofBits-toBits, nanBits-is}
 use Rattle.ieee.specs.Sqrt.{roundRoot}
-use Rattle.ieee.proofs.Isqrt.{IsRoot}
+use Rattle.ieee.specs.IsqrtLaws.{IsRoot}
 use Rattle.ieee.proofs.Rounded.{size-is, root-units, root-fits}
 use Rattle.ieee.proofs.Units.{bits-of-units}
 

@@ -2,7 +2,7 @@
 use Prim.Native.Nat.{ℕ, _*_, _^_}
 use native.Mathlib.Omega.{arith}
 use borrow.Author.Needs.{needs}
-use Rattle.ieee.proofs.Isqrt.{IsRoot}
+use Rattle.ieee.specs.IsqrtLaws.{IsRoot}
 use Rattle.ieee.proofs.OddRoot.{root-some, odd-below}
 use Rattle.ieee.proofs.root.odd_root.Statement.{statement}
 use Rattle.ieee.proofs.root.odd_root.Tie as tie

@@ -1,0 +1,114 @@
+// The size of a symbol guessed from the radius of its bull's-eye, and the symbol's boundaries about a centre:
+// `guess_barcode_size_general`, `guess_barcode_size` and `calculate_simple_boundary` of detector.rs.
+ghost use mathlib.Core.Path.{_≡_};
+ghost use Prim.Native.Nat.{_<_, _≤_};
+ghost use lib.Dec.{T};
+ghost use lib.IntN.{natAbs};
+ghost use Rattle.detector_boundary.specs.Size.{guessedSize, plainSize, isScale};
+ghost use Rattle.detector_boundary.specs.Boundary.{clamped, boundaryOf, plainBoundary, scaledBoundary, Pixel, Range};
+
+// A symbol's width and height in pixels.
+pub struct Size {
+    pub width: u32,
+    pub height: u32,
+}
+
+// The four boundaries of a symbol, in the source's words: top is the larger row.
+pub struct Boundary {
+    pub left: u32,
+    pub right: u32,
+    pub top: u32,
+    pub bottom: u32,
+}
+
+pub fn guess_barcode_size_general(
+    radius: u32,
+    height_adjust_percent: f64,
+    circle_area_percent: f64,
+    height_final_adjust_percent: f64,
+) -> Size
+    requires { ⌜ radius < 65536 ⌝ }
+    ensures { λ r. ⌜ r ≡ guessedSize radius «height_adjust_percent» «circle_area_percent» «height_final_adjust_percent» ⌝ }
+{
+    let circle_area = 3.141592653589793 * ((radius * radius) as f64);
+    let ideal_symbol_area = circle_area / circle_area_percent / (1.0 - height_adjust_percent);
+    let ideal_symbol_side = ieee::sqrt_f64(ideal_symbol_area);
+    Size {
+        width: ieee::floor_f64_to_u32(ideal_symbol_side),
+        height: ieee::floor_f64_to_u32(ideal_symbol_side * height_final_adjust_percent),
+    }
+}
+
+pub fn guess_barcode_size(radius: u32) -> Size
+    requires { ⌜ radius < 65536 ⌝ }
+    ensures { λ r. ⌜ r ≡ plainSize radius ⌝ }
+{
+    guess_barcode_size_general(radius, 0.03, 0.066, 1.0)
+}
+
+// Rust's `z.clamp(low, high) as u32`.
+fn clamp(z: i32, low: i32, high: i32) -> u32
+    requires { ⌜ Range low high ⌝ }
+    ensures { λ r. ⌜ r ≡ clamped z (natAbs low) (natAbs high) ⌝ }
+{
+    if z < low {
+        low as u32
+    } else if z > high {
+        high as u32
+    } else {
+        z as u32
+    }
+}
+
+const LEFT_SHIFT_PERCENT_ADJUST: f32 = 0.03;
+
+const RIGHT_SHIFT_PERCENT_ADJUST: f32 = 0.03;
+
+// The boundaries of a symbol of that size about the centre (x, y). No sum leaves i32, since a size is at most 32,768.
+fn calculate_simple_boundary(
+    image_width: u32,
+    image_height: u32,
+    x: u32,
+    y: u32,
+    size: Size,
+) -> Boundary
+    requires { ⌜ Pixel «image_width» «image_height» x y ⌝ ∗ ⌜ size .width ≤ 32768 ⌝ ∗ ⌜ size .height ≤ 32768 ⌝ }
+    ensures { λ r. ⌜ r ≡ boundaryOf «image_width» «image_height» x y size ⌝ }
+{
+    let up_down_shift = size.height as i32 / 2;
+    let symbol_width = std::num::nearest_u32_to_f32(size.width);
+    let left_shift = ieee::saturating_f32_to_i32(
+        symbol_width / 2.0 - symbol_width * LEFT_SHIFT_PERCENT_ADJUST,
+    );
+    let right_shift = ieee::saturating_f32_to_i32(
+        symbol_width / 2.0 + symbol_width * RIGHT_SHIFT_PERCENT_ADJUST,
+    );
+    Boundary {
+        left: clamp(x as i32 - left_shift, 0, image_width as i32 - 33),
+        right: clamp(x as i32 + right_shift, 33, image_width as i32),
+        top: clamp(y as i32 + up_down_shift, 33, image_height as i32),
+        bottom: clamp(y as i32 - up_down_shift, 0, image_height as i32 - 30),
+    }
+}
+
+// The plain box's boundaries.
+pub fn plain_boundary(width: u32, height: u32, x: u32, y: u32, radius: u32) -> Boundary
+    requires { ⌜ Pixel width height x y ⌝ ∗ ⌜ radius < 2048 ⌝ }
+    ensures { λ r. ⌜ r ≡ plainBoundary width height x y radius ⌝ }
+{
+    calculate_simple_boundary(width, height, x, y, guess_barcode_size(radius))
+}
+
+// The boundaries of a scale.
+pub fn scaled_boundary(width: u32, height: u32, x: u32, y: u32, radius: u32, scale: f64) -> Boundary
+    requires { ⌜ Pixel width height x y ⌝ ∗ ⌜ radius < 2048 ⌝ ∗ ⌜ T (isScale scale) ⌝ }
+    ensures { λ r. ⌜ r ≡ scaledBoundary width height x y radius scale ⌝ }
+{
+    calculate_simple_boundary(
+        width,
+        height,
+        x,
+        y,
+        guess_barcode_size_general(radius, 0.05, scale, 0.95),
+    )
+}
