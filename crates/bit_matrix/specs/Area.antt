@@ -1,6 +1,5 @@
 -- `try_get_area` of bit_matrix.rs with size 3: the pixels about a pixel, in order, and whether at least half of them are black. Assumes nothing.
 use Prim.Native.Nat.{ℕ, _+_, _-_, _*_}
-use mathlib.Core.Bool.{Bool}
 use mathlib.Core.List.{List, [], _∷_, map, flatMap}
 use lib.Dec.{leb}
 use lib.ListN.{length}

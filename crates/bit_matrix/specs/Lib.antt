@@ -1,4 +1,5 @@
 pub mod Pixels
 pub mod PixelsLaws
 pub mod Area
+pub mod AreaWords
 pub mod Examples

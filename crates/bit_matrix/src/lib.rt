@@ -1,12 +1,14 @@
 // bit_matrix.rs: the pixels of an image of 64-bit words, true for black, with a mark set for each stored bit that is read.
 // `get` alone decides what is read. An image has rows of `row_words` words; bit c % 64 of word c / 64 of a row is its column c.
+ghost use mathlib.Core.Bool.{true};
 ghost use mathlib.Core.Path.{_≡_};
-ghost use Prim.Native.Nat.{_+_, _-_, _^_, _≤_, _<_};
+ghost use Prim.Native.Nat.{_+_, _-_, _%_, _^_, _≤_, _<_};
 ghost use lib.ListN.{length};
 ghost use Rattle.reads.specs.Bits.{zeros};
 ghost use Rattle.reads.specs.Runs.{Ran};
 ghost use Rattle.bit_matrix.specs.Pixels.{offset, pixel, outOfRange, tryGet, onesOf};
 ghost use Rattle.bit_matrix.specs.Area.{column, box, countBlack, tryGetArea};
+ghost use Rattle.bit_matrix.specs.AreaWords.{Counted, threeOf, nineOf, InWords};
 
 // What `try_get` and `try_get_area` answer: outside the image, or inside, true for black.
 pub enum Sample {
@@ -143,6 +145,84 @@ fn predecessor(n: u32) -> u32
     if n == 0 { 0 } else { n - 1 }
 }
 
+// The area of `try_get_area`, pixel by pixel.
+fn area_by_pixels(
+    words: &[u64],
+    marks: &mut [u64],
+    row_words: usize,
+    width: u32,
+    height: u32,
+    x: u32,
+    y: u32,
+) -> Sample
+    requires { ⌜ (length (now marks) ≡ length (now words)) × («row_words» < 2 ^ 32) × (x ≤ 2048) × (y ≤ 2048) ⌝ }
+    ensures { λ r. ⌜ Ran (tryGetArea «row_words» (length (now (words .entry))) width height x y) (now (words .entry)) (now (marks .entry)) r (now (marks .exit)) ⌝ }
+{
+    let left = predecessor(x);
+    let from = predecessor(y);
+    let count = count_box(
+        words,
+        marks,
+        row_words,
+        width,
+        height,
+        left,
+        x + 2,
+        from,
+        y + 2,
+    );
+    match count {
+        Count::Outside => Sample::Outside,
+        Count::Black(black) => Sample::Inside(2 * black >= (x + 2 - left) * (y + 2 - from)),
+    }
+}
+
+// Whether the nine pixels about (x, y) lie inside, and in each row the three in one stored word.
+fn in_words(size: usize, row_words: usize, width: u32, height: u32, x: u32, y: u32) -> bool
+    requires { ⌜ («row_words» < 2 ^ 32) × (x ≤ 2048) × (y ≤ 2048) ⌝ }
+    ensures { λ r. ⌜ (r ≡ true → InWords size «row_words» width height x y) ⌝ }
+{
+    if x < 1 {
+        return false;
+    }
+    if y < 1 {
+        return false;
+    }
+    if x + 1 >= width {
+        return false;
+    }
+    if y + 1 >= height {
+        return false;
+    }
+    if (x - 1) % 64 > 61 {
+        return false;
+    }
+    get_offset(row_words, y + 1, x - 1) < size
+}
+
+// The black pixels of columns x to x + 2 of row y, which lie in one word.
+fn count_three(words: &[u64], marks: &mut [u64], row_words: usize, x: u32, y: u32) -> u64
+    requires { ⌜ (length (now marks) ≡ length (now words)) × («row_words» < 2 ^ 32) × (3 + x % 64 ≤ 64) × (offset «row_words» x y < length (now words)) ⌝ }
+    ensures { λ r. ⌜ Counted (now (words .entry)) (now (marks .entry)) (threeOf «row_words» x y) r (now (marks .exit)) ⌝ }
+{
+    let offset = get_offset(row_words, y, x);
+    let shift = x % 64;
+    marks[offset] |= 7u64 << shift;
+    let three = words[offset] >> shift;
+    (three & 1) + (three >> 1 & 1) + (three >> 2 & 1)
+}
+
+// The same of rows y to y + 2.
+fn count_nine(words: &[u64], marks: &mut [u64], row_words: usize, x: u32, y: u32) -> u64
+    requires { ⌜ (length (now marks) ≡ length (now words)) × («row_words» < 2 ^ 32) × (3 + x % 64 ≤ 64) × (y ≤ 2048) × (offset «row_words» x (y + 2) < length (now words)) ⌝ }
+    ensures { λ r. ⌜ Counted (now (words .entry)) (now (marks .entry)) (nineOf «row_words» x y) r (now (marks .exit)) ⌝ }
+{
+    let first = count_three(words, marks, row_words, x, y);
+    let second = count_three(words, marks, row_words, x, y + 1);
+    let third = count_three(words, marks, row_words, x, y + 2);
+    first + second + third
+}
+
 // The pixels about (x, y), cut at 0, with box size 3: black when at least half of them are. Past the width or height the first of them is outside already.
 pub fn try_get_area(
     words: &[u64],
@@ -162,23 +242,11 @@ pub fn try_get_area(
     if y > height {
         return Sample::Outside;
     }
-    let left = predecessor(x);
-    let from = predecessor(y);
-    let count = count_box(
-        words,
-        marks,
-        row_words,
-        width,
-        height,
-        left,
-        x + 2,
-        from,
-        y + 2,
-    );
-    match count {
-        Count::Outside => Sample::Outside,
-        Count::Black(black) => Sample::Inside(2 * black >= (x + 2 - left) * (y + 2 - from)),
+    if in_words(words.len(), row_words, width, height, x, y) {
+        let black = count_nine(words, marks, row_words, x - 1, y - 1);
+        return Sample::Inside(2 * black >= 9);
     }
+    area_by_pixels(words, marks, row_words, width, height, x, y)
 }
 
 // All marks cleared.

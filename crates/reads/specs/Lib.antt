@@ -2,6 +2,8 @@ pub mod Reads
 pub mod ReadsLaws
 pub mod Bits
 pub mod BitsLaws
+pub mod OrderLaws
+pub mod MasksLaws
 pub mod Runs
 pub mod RunsLaws
 pub mod Demand3

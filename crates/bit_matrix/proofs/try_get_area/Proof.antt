@@ -1,45 +1,24 @@
--- `bit_matrix::try_get_area` meets its contract: past the width or height nothing is read; elsewhere it is the count, compared. Assumes nothing.
-use Prim.Native.Nat.{ℕ, _+_, _-_, _*_, _^_, _≤_, _<_}
+-- `bit_matrix::try_get_area` meets its contract: past the width or height nothing is read; elsewhere the area is taken by words or by pixels. Assumes nothing.
+use Prim.Native.Nat.{ℕ, _+_, _-_, _*_, _^_, _<_}
 use mathlib.Core.List.{List}
 use mathlib.Core.Logic.{inl, inr}
 use mathlib.Core.Path.{_≡_}
-use native.Mathlib.Nat.{mul-le-mul}
 use native.Mathlib.Omega.{arith}
 use borrow.Author.Needs.{needs}
-use lib.Dec.{leb}
-use lib.ListN.{length}
-use Rattle.reads.specs.Runs.{Ran}
-use Rattle.reads.specs.RunsLaws.{ran-bind, ran-done}
-use Rattle.bit_matrix.specs.Area.{box, countBlack, tryGetArea}
-use Rattle.bit_matrix.proofs.AreaLaws.{length-box, ran-few, area-outside}
-use Rattle.bit_matrix.specs.declared.Sample.the-variants.{Outside, Inside}
-use Rattle.bit_matrix.specs.declared.Count.{Count}
-use Rattle.bit_matrix.specs.declared.Count.the-variants as counts
+use Rattle.bit_matrix.specs.Pixels.{offset}
+use Rattle.bit_matrix.specs.AreaWords.{Counted, nineOf, InWords}
+use Rattle.bit_matrix.proofs.AreaLaws.{area-outside}
+use Rattle.bit_matrix.proofs.AreaWordsLaws.{few-nine, area-in-words}
 use Rattle.bit_matrix.proofs.try_get_area.Statement.{statement}
 use Rattle.bit_matrix.proofs.try_get_area.Tie as tie
 
--- at most nine pixels
-cells : (x y left from : ℕ) → left ≡ x - 1 → from ≡ y - 1 → (x + 2 - left) * (y + 2 - from) ≤ 9
-cells x y left from l f = mul-le-mul {n₂ = 3} {m₂ = 3} (omega arith) (omega arith)
+last-row : {size rowWords width height x y : ℕ} → InWords size rowWords width height x y → offset rowWords (x - 1) (y - 1 + 2) < size
+last-row {y = y} inside =
+    let same : y - 1 + 2 ≡ y + 1 = omega (arith, inside .top) in
+    rw same (inside .stored)
 
-cells-fit : (x y left from : ℕ) → left ≡ x - 1 → from ≡ y - 1 → (x + 2 - left) * (y + 2 - from) < 2 ^ 32
-cells-fit x y left from l f = omega (arith, cells x y left from l f)
-
-module _ {words marks after : List ℕ} (rowWords width height x y left from : ℕ) {count : Count} (l : left ≡ x - 1) (f : from ≡ y - 1)
-    (ran : Ran (countBlack rowWords (length words) width height (box left (x + 2) from (y + 2)) 0) words marks count after) where
-  outside : count ≡ counts.Outside → Ran (tryGetArea rowWords (length words) width height x y) words marks Outside after
-  unfolding tryGetArea
-  outside e = ran-bind _ (rw (l, f, e) at ran) (ran-done _)
-
-  inside : {n : ℕ} → count ≡ counts.Black n
-      → Ran (tryGetArea rowWords (length words) width height x y) words marks (Inside (leb ((x + 2 - left) * (y + 2 - from)) (2 * n))) after
-  unfolding tryGetArea
-  inside e = rw (l, f, ← length-box (x - 1) (x + 2) (y - 1) (y + 2)) (ran-bind _ (rw (l, f, e) at ran) (ran-done _))
-
-  twice-fits : (n : ℕ) → count ≡ counts.Black n → 2 * n < 2 ^ 32
-  twice-fits n e =
-      let few : n ≤ 0 + length (box left (x + 2) from (y + 2)) = (rw e at (ran-few rowWords (length words) width height _ 0 ran)) .few in
-      omega (arith, few, length-box left (x + 2) from (y + 2), cells x y left from l f)
+twice-fits : {words marks after : List ℕ} {n : ℕ} (rowWords x y : ℕ) → Counted words marks (nineOf rowWords x y) n after → 2 * n < 2 ^ 64
+twice-fits rowWords x y counted = omega (arith, few-nine rowWords x y counted)
 
 returns : tie.Need-returns
 returns c = area-outside _ _ _ _ _ _ (inl (c .if1 .taken))
@@ -47,56 +26,39 @@ returns c = area-outside _ _ _ _ _ _ (inl (c .if1 .taken))
 returns-2 : tie.Need-returns-2
 returns-2 c = area-outside _ _ _ _ _ _ (inr (c .if2 .taken))
 
-predecessor-requires : tie.Need-predecessor-requires
-predecessor-requires c κs = search needs
+in-words-requires : tie.Need-in-words-requires
+in-words-requires c κs = search needs
 
-predecessor-requires-2 : tie.Need-predecessor-requires-2
-predecessor-requires-2 c κs = search needs
+sub-count-nine : tie.Need-sub-count-nine
+sub-count-nine c = omega (arith, c .before .before .in-words .ensures (c .before .if3 .taken) .left)
 
-add-count-box : tie.Need-add-count-box
-add-count-box c = search needs
+sub-count-nine-2 : tie.Need-sub-count-nine-2
+sub-count-nine-2 c = omega (arith, c .before .before .in-words .ensures (c .before .if3 .taken) .top)
 
-add-count-box-2 : tie.Need-add-count-box-2
-add-count-box-2 c = search needs
+count-nine-requires : tie.Need-count-nine-requires
+count-nine-requires c κs =
+    let inside = c .before .before .in-words .ensures (c .before .if3 .taken) in
+    search (needs, last-row)
 
-count-box-requires : tie.Need-count-box-requires
-count-box-requires c κs = search needs
-
-enum-told : tie.Need-enum-told
-enum-told c = search needs
-
-enum-known-count : tie.Need-enum-known-count
-enum-known-count c = search needs
-
-mul-t18 : tie.Need-mul-t18
-mul-t18 c = record { fits = search twice-fits }
-
-add-t19 : tie.Need-add-t19
-add-t19 c = search needs
-
-sub-t20 : tie.Need-sub-t20
-sub-t20 c = search needs
-
-add-t21 : tie.Need-add-t21
-add-t21 c = search needs
-
-sub-t22 : tie.Need-sub-t22
-sub-t22 c = search needs
-
-mul-t23 : tie.Need-mul-t23
-mul-t23 c = record { fits = search cells-fit }
+mul-t16 : tie.Need-mul-t16
+mul-t16 c = record { fits = search twice-fits }
 
 same-length : tie.Need-same-length
 same-length c = search needs
 
 returns-3 : tie.Need-returns-3
-returns-3 c = search outside
+returns-3 c =
+    let inside = c .before .before .before .before .before .in-words .ensures (c .before .before .before .before .if3 .taken) in
+    search area-in-words
+
+area-by-pixels-requires : tie.Need-area-by-pixels-requires
+area-by-pixels-requires c κs = search needs
 
 same-length-2 : tie.Need-same-length-2
 same-length-2 c = search needs
 
 returns-4 : tie.Need-returns-4
-returns-4 c = search inside
+returns-4 c = search needs
 
 pub try-get-area-spec : {M : Type 1} → statement M
 try-get-area-spec =
@@ -104,20 +66,13 @@ try-get-area-spec =
     (tie.spec
     returns
     returns-2
-    predecessor-requires
-    predecessor-requires-2
-    add-count-box
-    add-count-box-2
-    count-box-requires
-    enum-told
-    enum-known-count
-    mul-t18
-    add-t19
-    sub-t20
-    add-t21
-    sub-t22
-    mul-t23
+    in-words-requires
+    sub-count-nine
+    sub-count-nine-2
+    count-nine-requires
+    mul-t16
     same-length
     returns-3
+    area-by-pixels-requires
     same-length-2
     returns-4)

@@ -1,0 +1,64 @@
+-- The loop over degrees in `attempt_rotation_box` of detector.rs: six groups of three points, turned about the centre. At a degree the points are looked at in
+-- order; the first of the wrong colour ends the degree, and the first whose area is not inside the image ends all degrees. Assumes nothing.
+use Prim.Native.Nat.{ℕ, zero, suc, _+_, _*_, _/_, _%_}
+use mathlib.Core.Bool.{Bool, not, cond}
+use mathlib.Core.List.{List, []}
+use lib.Dec.{ltb, eqb}
+use lib.Ieee.{Float, toUnsigned}
+use lib.ListN.{getD}
+use Rattle.reads.specs.Reads.{Reads, done, _>>=_}
+use Rattle.bit_matrix.specs.Pixels.{ifSample}
+use Rattle.bit_matrix.specs.Area.{tryGetArea}
+use Rattle.bit_matrix.specs.declared.Sample.{Sample}
+use Rattle.sines.specs.Sines.{sineOf, cosineOf}
+use Rattle.rxing_result_point.specs.declared.PointU.{PointU}
+use Rattle.rxing_result_point.specs.Points.{turned}
+use Rattle.detector_degrees.specs.declared.Degree.{Degree}
+use Rattle.detector_degrees.specs.declared.Degree.the-variants.{Found, Not, Outside}
+use Rattle.detector_degrees.specs.declared.Rotation.{Rotation}
+use Rattle.detector_degrees.specs.declared.Rotation.the-variants as rotation
+
+-- point k of the eighteen: three of each group
+unfoldable pub pointOf : List (List PointU) → ℕ → PointU
+pointOf groups k = getD (getD groups (k / 3) []) (k % 3) (record { x = 0; y = 0 })
+
+-- group 0, the top left, is black, group 1, the top right, white, the others black, white, black
+unfoldable pub rightColour : ℕ → Bool → Bool
+rightColour k black = cond (ltb k 3) black (cond (ltb k 6) (not black) (cond (eqb (k % 3) 1) (not black) black))
+
+-- by cases on a degree's answer
+abbrev pub ifDegree : {B : Type 0} → B → B → B → Degree → B
+ifDegree found not outside Found = found
+ifDegree found not outside Not = not
+ifDegree found not outside Outside = outside
+
+-- by cases on a rotation
+abbrev pub ifRotation : {B : Type 0} → B → (ℕ → B) → Rotation → B
+ifRotation none some rotation.None = none
+ifRotation none some (rotation.Found degree) = some degree
+
+module _ (rowWords size width height : ℕ) (center : PointU) where
+  -- the area about the pixel in which a turned point lies
+  unfoldable pub lookAt : Float → Float → PointU → Reads Sample
+  lookAt sin cos point = let p = turned center point sin cos in tryGetArea rowWords size width height (toUnsigned 32 (p .x)) (toUnsigned 32 (p .y))
+
+  module _ (groups : List (List PointU)) where
+    -- n points from point k on, at the angle with this sine and cosine
+    unfoldable pub pointsFrom : Float → Float → ℕ → ℕ → Reads Degree
+    pointsFrom sin cos zero k = done Found
+    pointsFrom sin cos (suc n) k = do
+      sample ← lookAt sin cos (pointOf groups k)
+      ifSample (done Outside) (λ black. cond (rightColour k black) (pointsFrom sin cos n (k + 1)) (done Not)) sample
+
+    unfoldable pub testDegree : Float → Float → Reads Degree
+    testDegree sin cos = pointsFrom sin cos 18 0
+
+    -- n degrees from degree 2 * i on
+    unfoldable pub degreesFrom : ℕ → ℕ → Reads Rotation
+    degreesFrom zero i = done rotation.None
+    degreesFrom (suc n) i = do
+      tested ← testDegree (sineOf (i * 2)) (cosineOf (i * 2))
+      ifDegree (done (rotation.Found (i * 2))) (degreesFrom n (i + 1)) (done rotation.None) tested
+
+    unfoldable pub tryDegrees : Reads Rotation
+    tryDegrees = degreesFrom 175 0

@@ -1,0 +1,3 @@
+pub mod Degrees
+pub mod DegreesLaws
+pub mod Examples
