@@ -16,6 +16,7 @@ use lib.Ieee.Bits.{is-true}
 use lib.Ieee.Fits.{down-pos}
 use lib.Ieee.Positive.{above, above-of-le, cross→le, first-pos}
 use borrow.Author.Tests.{ltb-true, ltb-false, lt-ltb}
+use Rattle.ieee.specs.Sign.{abs}
 use Rattle.ieee.proofs.Numbers.{le-or-lt}
 
 -- ---- unsigned: x is above -1 or not, and below 2 ^ w or not
@@ -157,3 +158,25 @@ negated n h = ap (λ (z : ℤ). pos 0 -ℤ z) (toZ-pos w32 n h) ∙ +ℤ-idl (ne
 pub negated-fits : (n : ℕ) → n < 2 ^ 31 → SFits w32 (negℤ (pos n))
 negated-fits zero h = record { sfits = h }
 negated-fits (suc n) h = record { sfits = omega arith }
+
+-- ---- abs, then the cast, by whether x is below 1
+under-one : (a d : ℕ) → ltb (a * 1) (1 * 1 * d) ≡ true → a < 1 * d
+under-one a d h = omega (arith, ltb-true)
+
+pub abs-below-one : (x : Float) → lt x (fin false 1 (pos 0)) ≡ true → toUnsigned 32 (neg x) ≡ toUnsigned 32 (abs x)
+unfolding lt toUnsigned neg abs
+abs-below-one nan h = refl
+abs-below-one (inf true) h = refl
+abs-below-one (inf false) h = absurd (true≢false (sym h))
+abs-below-one (fin true m e) h = refl
+abs-below-one (fin false m e) h =
+    let none : m * up e / down e < 1 = div-lt-iff-lt-mul (down-pos e) .1 (under-one (m * up e) (down e) h) in
+    omega (arith, none)
+
+pub abs-from-one : (x : Float) → lt x (fin false 1 (pos 0)) ≡ false → toUnsigned 32 x ≡ toUnsigned 32 (abs x)
+unfolding lt toUnsigned abs
+abs-from-one nan h = refl
+abs-from-one (inf true) h = absurd (true≢false h)
+abs-from-one (inf false) h = refl
+abs-from-one (fin true m e) h = absurd (omega (arith, ltb-false, down-pos e))
+abs-from-one (fin false m e) h = refl

@@ -6,6 +6,7 @@ ghost use lib.Dec.{T};
 ghost use lib.IntN.{pos};
 ghost use lib.Ieee as Ieee;
 ghost use lib.Ieee.{fin, binary32, binary64};
+ghost use Rattle.ieee.specs.Sign.{abs};
 ghost use Rattle.ieee.specs.Integral.{floor, roundTiesToAway};
 
 // Rust's `x as u64`. A NaN is not above -1.0, and goes the way of the negative numbers.
@@ -55,6 +56,17 @@ pub fn saturating_f32_to_u32(x: f32) -> u32
         }
     } else {
         u32::MIN
+    }
+}
+
+// Rust's `x.abs() as u32`. A number from 1 on is cast as it is, and any other by its negation.
+pub fn abs_f32_to_u32(x: f32) -> u32
+    ensures { λ r. ⌜ r ≡ Ieee.toUnsigned 32 (abs x) ⌝ }
+{
+    if x < 1.0 {
+        saturating_f32_to_u32(-x)
+    } else {
+        saturating_f32_to_u32(x)
     }
 }
 

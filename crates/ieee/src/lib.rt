@@ -11,6 +11,7 @@ pub use bits::bits_of_f32;
 pub use bits::bits_of_f64;
 pub use bits::f32_of_bits;
 pub use bits::f64_of_bits;
+pub use casts::abs_f32_to_u32;
 pub use casts::floor_f64_to_u32;
 pub use casts::round_floor_f32_to_u32;
 pub use casts::saturating_f32_to_i32;

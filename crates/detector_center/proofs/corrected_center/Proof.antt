@@ -1,0 +1,52 @@
+-- `detector_center::corrected_center` meets its contract: the walks' runs, one after the other. The sines of 7 and 97 degrees are not 0. Assumes nothing.
+use Prim.Native.Nat.{ℕ}
+use mathlib.Core.List.{List}
+use mathlib.Core.Path.{_≡_, ap, _∙_}
+use borrow.Author.Needs.{needs}
+use Rattle.reads.specs.Runs.{Ran}
+use Rattle.reads.specs.RunsLaws.{ran-bind, ran-is}
+use Rattle.rxing_result_point.specs.declared.Point.{Point}
+use Rattle.rxing_result_point.specs.declared.PointU.{PointU}
+use Rattle.rxing_result_point.specs.Points.{rounded}
+use Rattle.detector_walks.specs.declared.Ends.{Ends}
+use Rattle.detector_walks.specs.Walks.{findWidthAtDegree}
+use Rattle.detector_walks.specs.StepsLaws.{sloped-7, sloped-97}
+use Rattle.detector_center.specs.Center.{findCenter, corrected}
+use Rattle.detector_center.proofs.corrected_center.Statement.{statement}
+use Rattle.detector_center.proofs.corrected_center.Tie as tie
+
+centered : {words m₀ m₁ m₂ : List ℕ} (rowWords size : ℕ) (center : PointU) {first second : Ends} {p : Point} {r : PointU}
+    → Ran (findWidthAtDegree rowWords size center 7) words m₀ first m₁ → Ran (findWidthAtDegree rowWords size center 97) words m₁ second m₂
+    → r ≡ rounded p → p ≡ findCenter (first .left) (first .right) (second .left)
+    → Ran (corrected rowWords size center) words m₀ r m₂
+unfolding corrected
+centered rowWords size center one two e f = ran-bind _ one (ran-bind _ two (ran-is (e ∙ ap rounded f)))
+
+find-width-at-degree-requires : tie.Need-find-width-at-degree-requires
+find-width-at-degree-requires c κs = search (needs, sloped-7)
+
+find-width-at-degree-requires-2 : tie.Need-find-width-at-degree-requires-2
+find-width-at-degree-requires-2 c κs = search (needs, sloped-97)
+
+find-center-requires : tie.Need-find-center-requires
+find-center-requires c κs = search needs
+
+round-to-point-u-requires : tie.Need-round-to-point-u-requires
+round-to-point-u-requires c κs = search needs
+
+same-length : tie.Need-same-length
+same-length c = search needs
+
+returns : tie.Need-returns
+returns c = search centered
+
+pub corrected-center-spec : {M : Type 1} → statement M
+corrected-center-spec =
+    tie.close
+    (tie.spec
+    find-width-at-degree-requires
+    find-width-at-degree-requires-2
+    find-center-requires
+    round-to-point-u-requires
+    same-length
+    returns)

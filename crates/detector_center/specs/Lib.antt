@@ -1,0 +1,2 @@
+pub mod Center
+pub mod Examples

@@ -1,0 +1,5 @@
+pub mod Walks
+pub mod StepsLaws
+pub mod FarLaws
+pub mod WalksLaws
+pub mod Examples

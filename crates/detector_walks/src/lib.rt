@@ -1,0 +1,113 @@
+// `find_width_at_degree` of detector.rs: the walks from a centre to the left and to the right, column by column of the centre's row, each
+// point turned about the centre, until one is black or lies past the image's last word. Each stored bit that is read is marked.
+// The source's third result, the length of both walks, is left out: the corrected centre has no use for it.
+use rxing_result_point::Point;
+use rxing_result_point::PointU;
+ghost use mathlib.Core.Path.{_≡_};
+ghost use Prim.Native.Nat.{_^_, _≤_, _<_};
+ghost use lib.ListN.{length};
+ghost use Rattle.reads.specs.Runs.{Ran};
+ghost use Rattle.sines.specs.Sines.{sines};
+ghost use Rattle.detector_walks.specs.Walks.{walkPoint, whitePixel, whitePoint, firstColumn, walk, findWidthAtDegree, CenterWithin, Slanted, Sloped};
+
+// The points where the two walks at a degree end.
+pub struct Ends {
+    pub left: Point,
+    pub right: Point,
+}
+
+// Whether a pixel lies in a word of the image and is white.
+fn is_white(words: &[u64], marks: &mut [u64], row_words: usize, x: u32, y: u32) -> bool
+    requires { ⌜ (length (now marks) ≡ length (now words)) × («row_words» < 2 ^ 32) ⌝ }
+    ensures { λ r. ⌜ Ran (whitePixel «row_words» (length (now (words .entry))) x y) (now (words .entry)) (now (marks .entry)) r (now (marks .exit)) ⌝ }
+{
+    if bit_matrix::check_in_bounds(words, row_words, x, y) {
+        return false;
+    }
+    !bit_matrix::get(words, marks, row_words, x, y)
+}
+
+// Whether the walk goes on from column x. The operations are those of `get_point`, in its order; written out, so that what the centre alone decides is
+// computed once for a walk.
+fn goes_on(
+    words: &[u64],
+    marks: &mut [u64],
+    row_words: usize,
+    center: PointU,
+    sin: f32,
+    cos: f32,
+    x: u32,
+) -> bool
+    requires { ⌜ length (now marks) ≡ length (now words) ⌝ ∗ ⌜ CenterWithin (length (now words)) «row_words» center ⌝ ∗ ⌜ x ≤ 2 ^ 24 ⌝ }
+    ensures { λ r. ⌜ Ran (whitePoint «row_words» (length (now (words .entry))) (walkPoint center sin cos x)) (now (words .entry)) (now (marks .entry)) r (now (marks .exit)) ⌝ }
+{
+    let cx = center.x as f32;
+    let cy = center.y as f32;
+    let u = x as f32 - cx;
+    let v = cy - cy;
+    let column = ieee::abs_f32_to_u32(cos * u - sin * v + cx);
+    let row = ieee::abs_f32_to_u32(sin * u + cos * v + cy);
+    is_white(words, marks, row_words, column, row)
+}
+
+// The column where a walk starts: to the left the centre's own.
+fn first_column(center: PointU, left: bool) -> u32
+    requires { ⌜ center .x < 2048 ⌝ }
+    ensures { λ r. ⌜ r ≡ firstColumn center left ⌝ }
+{
+    if left { center.x } else { center.x + 1 }
+}
+
+// The point that a walk is at in column x.
+fn walk_point(center: PointU, sin: f32, cos: f32, x: u32) -> Point
+    ensures { λ r. ⌜ r ≡ walkPoint center sin cos x ⌝ }
+{
+    let y = center.y;
+    rxing_result_point::turn(center, PointU { x, y }, sin, cos)
+}
+
+// The point where a walk ends. To the left column 0 is looked at too, before the test that ends the walk there.
+fn walk(
+    words: &[u64],
+    marks: &mut [u64],
+    row_words: usize,
+    center: PointU,
+    sin: f32,
+    cos: f32,
+    left: bool,
+) -> Point
+    requires { ⌜ length (now marks) ≡ length (now words) ⌝ ∗ ⌜ CenterWithin (length (now words)) «row_words» center ⌝ ∗ ⌜ Slanted sin cos ⌝ }
+    ensures { λ r. ⌜ Ran (walk «row_words» (length (now (words .entry))) center sin cos left) (now (words .entry)) (now (marks .entry)) r (now (marks .exit)) ⌝ }
+{
+    let mut x = first_column(center, left);
+    while goes_on(words, marks, row_words, center, sin, cos, x) {
+        if left {
+            if x == 0 {
+                return walk_point(center, sin, cos, x);
+            }
+            x -= 1;
+        } else {
+            x += 1;
+        }
+    }
+    walk_point(center, sin, cos, x)
+}
+
+// Both walks. At a degree with a sine other than 0 the walk to the right ends for certain.
+pub fn find_width_at_degree(
+    words: &[u64],
+    marks: &mut [u64],
+    row_words: usize,
+    center: PointU,
+    table: &[f32; 360],
+    degree: u32,
+) -> Ends
+    requires { ⌜ length (now marks) ≡ length (now words) ⌝ ∗ ⌜ CenterWithin (length (now words)) «row_words» center ⌝ ∗ ⌜ now table ≡ sines ⌝ ∗ ⌜ Sloped degree ⌝ }
+    ensures { λ r. ⌜ Ran (findWidthAtDegree «row_words» (length (now (words .entry))) center degree) (now (words .entry)) (now (marks .entry)) r (now (marks .exit)) ⌝ }
+{
+    let sin = sines::sine(table, degree);
+    let cos = sines::cosine(table, degree);
+    let left = walk(words, marks, row_words, center, sin, cos, true);
+    let right = walk(words, marks, row_words, center, sin, cos, false);
+    Ends { left, right }
+}
