@@ -2,7 +2,7 @@
 use Prim.Native.Nat.{ℕ, zero, suc, _+_, _-_, _*_, _^_, _≤_, _<_}
 use native.Mathlib.Nat.{zero-mul}
 use native.Mathlib.Omega.{arith}
-use mathlib.Core.Path.{_≡_, sym, ap, _∙_}
+use mathlib.Core.Path.{_≡_, refl, sym, ap, _∙_}
 use mathlib.Core.List.{List}
 use lib.Arith.{digits-div, digits-mod}
 use lib.Bits.{bitOr, or-zero-r, or-shifted-r}
@@ -10,6 +10,7 @@ use lib.ListN.{length, getD, set, length-set}
 use lib.Pow.{pow-pos, pow-lt}
 use lib.Seq.{getD-set-same, set-getD, set-set}
 use Rattle.reads.specs.Bits.{setBit, mark, markAll, range, mask}
+use Rattle.reads.specs.BitsLaws.{mark-past}
 use Rattle.reads.specs.OrderLaws.{or-assoc}
 
 twice : (m x : ℕ) → m * (2 * x) + x ≡ (2 * m + 1) * x
@@ -47,3 +48,12 @@ module _ (q : ℕ) where
       ∙ set-set ms q w _
       ∙ ap (λ (v : ℕ). set ms q (bitOr v (mask n (p + 1)))) (getD-set-same ms q w 0 h)
       ∙ ap (set ms q) (mask-more (getD ms q 0) n p)
+
+  -- past the last word nothing is marked
+  pub marked-past : (ms : List ℕ) (n p : ℕ) → length ms ≤ q → n + p ≤ 64 → markAll ms (range (q * 64 + p) n) ≡ ms
+  unfolding range markAll
+  marked-past ms zero p h fits = refl
+  marked-past ms (suc n) p h fits =
+      let next : q * 64 + p + 1 ≡ q * 64 + (p + 1) = omega arith in
+      ap (λ (l : List ℕ). markAll l (range (q * 64 + p + 1) n)) (mark-past ms (q * 64 + p) (omega arith))
+      ∙ ap (λ (i : ℕ). markAll ms (range i n)) next ∙ marked-past ms n (p + 1) h (omega arith)

@@ -1,16 +1,16 @@
--- Marks do not depend on the order in which bits are marked. Assumes nothing.
-use Prim.Native.Nat.{ℕ, _+_, _*_, _/_, _%_, _^_, _≤_, _<_, max}
+-- Marks do not depend on the order in which bits are marked, nor on how often. Assumes nothing.
+use Prim.Native.Nat.{ℕ, zero, suc, _+_, _*_, _/_, _%_, _^_, _≤_, _<_, max}
 use native.Mathlib.Decide.{ℕ-discrete, decLt}
 use native.Mathlib.Omega.{arith}
 use mathlib.Core.Logic.{_≢_}
 use mathlib.Core.Path.{_≡_, refl, sym, ap, _∙_}
 use mathlib.Core.List.{List, [], _∷_, map, flatMap}
 use lib.Arith.{bin-ind, digits-div, digits-mod}
-use lib.Bits.{bitOr, or-step, or-comm}
+use lib.Bits.{bitOr, or-step, or-comm, or-self}
 use lib.ListN.{length, getD, set}
 use lib.Seq.{getD-set-same, getD-set-other, set-set, set-comm}
-use Rattle.reads.specs.Bits.{setBit, mark, markAll}
-use Rattle.reads.specs.BitsLaws.{length-mark, mark-past, markAll-append}
+use Rattle.reads.specs.Bits.{setBit, mark, markAll, range}
+use Rattle.reads.specs.BitsLaws.{length-mark, mark-past, markAll-append, range-join, range-last}
 
 -- ---- one word
 
@@ -38,6 +38,10 @@ setBit-swap : (w a b : ℕ) → setBit (setBit w a) b ≡ setBit (setBit w b) a
 unfolding setBit
 setBit-swap w a b = or-assoc w (2 ^ a) (2 ^ b) ∙ ap (bitOr w) (or-comm (2 ^ a) (2 ^ b)) ∙ sym (or-assoc w (2 ^ b) (2 ^ a))
 
+setBit-again : (w a : ℕ) → setBit (setBit w a) a ≡ setBit w a
+unfolding setBit
+setBit-again w a = or-assoc w (2 ^ a) (2 ^ a) ∙ ap (bitOr w) (or-self (2 ^ a))
+
 -- ---- a list of words
 
 -- two bits of one stored word
@@ -46,6 +50,15 @@ mark-twice : (ms : List ℕ) (q a b : ℕ) → q < length ms
 mark-twice ms q a b h =
     let v = setBit (getD ms q 0) a in
     set-set ms q v _ ∙ ap (λ (w : ℕ). set ms q (setBit w b)) (getD-set-same ms q v 0 h)
+
+-- a bit marked again
+mark-again : (ms : List ℕ) (i : ℕ) → mark (mark ms i) i ≡ mark ms i
+unfolding mark
+mark-again ms i = go (decLt (i / 64) (length ms))
+  where
+    go : Dec (i / 64 < length ms) → mark (mark ms i) i ≡ mark ms i
+    go (yes stored) = mark-twice ms (i / 64) (i % 64) (i % 64) stored ∙ ap (set ms (i / 64)) (setBit-again (getD ms (i / 64) 0) (i % 64))
+    go (no past) = rw (mark-past ms i (omega arith), mark-past ms i (omega arith))
 
 mark-swap : (ms : List ℕ) (i j : ℕ) → mark (mark ms i) j ≡ mark (mark ms j) i
 unfolding mark
@@ -75,6 +88,19 @@ markAll-swap : (ms is js : List ℕ) → markAll (markAll ms is) js ≡ markAll 
 unfolding markAll
 markAll-swap ms [] js = refl
 markAll-swap ms (i ∷ is) js = markAll-swap (mark ms i) is js ∙ ap (λ (l : List ℕ). markAll l is) (markAll-mark ms js i)
+
+-- ---- a range whose first bit is the last of another
+
+pub range-again : (ms : List ℕ) (i m n : ℕ) → markAll (markAll ms (range i (m + 1))) (range (i + m) n) ≡ markAll ms (range i (m + max n 1))
+unfolding range markAll
+range-again ms i m zero = refl
+range-again ms i m (suc n) =
+    let sum : m + 1 + n ≡ m + max (suc n) 1 = omega arith in
+    let next : i + m + 1 ≡ i + (m + 1) = omega arith in
+    let again : mark (markAll ms (range i (m + 1))) (i + m) ≡ markAll ms (range i (m + 1)) =
+    ap (λ (l : List ℕ). mark l (i + m)) (range-last ms i m) ∙ mark-again (markAll ms (range i m)) (i + m) ∙ sym (range-last ms i m) in
+    ap (λ (l : List ℕ). markAll l (range (i + m + 1) n)) again ∙ ap (λ (j : ℕ). markAll (markAll ms (range i (m + 1))) (range j n)) next
+    ∙ range-join ms i (m + 1) n ∙ ap (λ (k : ℕ). markAll ms (range i k)) sum
 
 -- ---- bits in columns and rows
 

@@ -1,0 +1,2 @@
+pub mod BitRuns
+pub mod ChangesLaws

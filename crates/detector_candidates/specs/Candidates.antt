@@ -1,0 +1,90 @@
+-- `find_concentric_circles` of detector.rs as a reading program (document 01, "Candidates"). `rowWords` and `size` are the image's: words in a row, and in
+-- all. Definitions only. Assumes nothing.
+use Prim.Native.Nat.{ℕ, zero, suc, _+_, _-_, _*_, _/_, _≤_, min}
+use mathlib.Core.Bool.{true, false, cond, _||_}
+use mathlib.Core.Path.{_≡_}
+use mathlib.Core.List.{List, [], _∷_, _++_}
+use lib.Dec.{eqb, ltb}
+use lib.ListN.{length, take, replicate}
+use Rattle.reads.specs.Reads.{Reads, done, _>>=_}
+use Rattle.reads.specs.Runs.{valueOf, marksOf}
+use Rattle.records.specs.Records.{Record, Became}
+use Rattle.detector_rows.specs.Rows.{nextBullseye}
+use Rattle.detector_rows.specs.declared.Bullseye.{Bullseye}
+use Rattle.detector_columns.specs.Columns.{verifyBullseyeVertical}
+use Rattle.detector_candidates.specs.declared.Searched.{Searched}
+
+-- ---- one search of a row, from a column on
+
+-- a candidate's record: centre, radius, the runs of its row and of its column; what later steps fill in is zero
+unfoldable pub candidateOf : ℕ → Bullseye → List ℕ → Record
+candidateOf row eye vertical = eye .center ∷ row ∷ eye .radius ∷ (eye .buckets ++ vertical ++ replicate 15 0)
+
+-- no window: the row ends
+unfoldable pub nothing : ℕ → Searched
+nothing column = record { passed = false; ended = true; column = column; candidate = replicate 40 0 }
+
+-- a bull's-eye: the next search starts at the column that closed its window
+unfoldable pub passed : ℕ → Bullseye → List ℕ → Searched
+passed row eye vertical = record { passed = true; ended = false; column = eye .center + eye .radius; candidate = candidateOf row eye vertical }
+
+-- a window and no bull's-eye: the next search starts a quarter of the radius into the window. If this one started there, the row ends.
+unfoldable pub failed : ℕ → Bullseye → Searched
+failed column eye =
+    let next = eye .center - eye .radius + eye .radius / 4 in
+    record { passed = false; ended = eqb next column; column = next; candidate = replicate 40 0 }
+
+-- the candidates after a search
+abbrev pub after : List Record → Searched → List Record
+after circles s = cond (s .passed) (circles ++ s .candidate ∷ []) circles
+
+module _ (rowWords size width height : ℕ) where
+  unfoldable pub searchFrom : ℕ → ℕ → Reads Searched
+  searchFrom row column = do
+    eye ← nextBullseye rowWords size width row column
+    cond (eye .found)
+        (do
+          seen ← verifyBullseyeVertical rowWords size height row (eye .center)
+          cond (seen .good) (done (passed row eye (seen .buckets))) (done (failed column eye)))
+        (done (nothing column))
+
+  -- ---- the sweep, over at most `capacity` candidates and the one after them, which ends it
+  module _ (capacity : ℕ) where
+    -- The row from a column on, `circles` being the candidates so far. Each search starts further to the right, so that the width is enough fuel.
+    unfoldable pub rowFrom : ℕ → ℕ → ℕ → List Record → Reads (List Record)
+    rowFrom zero row column circles = done circles
+    rowFrom (suc n) row column circles = do
+      s ← searchFrom row column
+      let now = after circles s
+      cond (s .ended || ltb capacity (length now)) (done now) (rowFrom n row (s .column) now)
+
+    -- every second row, up to six before the height; the height is more than enough fuel
+    unfoldable pub rowsFrom : ℕ → ℕ → List Record → Reads (List Record)
+    rowsFrom zero row circles = done circles
+    rowsFrom (suc n) row circles =
+        cond (ltb row (height - 6))
+        (do
+          now ← rowFrom width row 6 circles
+          cond (ltb capacity (length now)) (done now) (rowsFrom n (row + 2) now))
+        (done circles)
+
+    unfoldable pub concentricCircles : Reads (List Record)
+    concentricCircles = rowsFrom height 6 []
+
+-- ---- the buffer
+
+-- `count` candidates stand in a buffer that has room for the capacity
+pub record Room (capacity : ℕ) (buffer : List ℕ) (count : ℕ) : Type 0 where
+  pub few : count ≤ capacity
+  pub most : capacity ≤ 1024
+  pub held : 40 * capacity ≤ length buffer
+
+-- There are `count` candidates, and the first of them, up to the capacity, are the buffer's records; what is behind them is as it was.
+pub record Stored (capacity : ℕ) (before : List ℕ) (circles : List Record) (count : ℕ) (buffer : List ℕ) : Type 0 where
+  pub counted : count ≡ length circles
+  pub written : Became (min count capacity) before (take capacity circles) buffer
+
+-- The steps p, run over the image's words, give the candidates that are stored, and take the marks from `marks` to `marks′`.
+pub record Listed (p : Reads (List Record)) (capacity : ℕ) (words marks buffer : List ℕ) (found : ℕ) (marks′ buffer′ : List ℕ) : Type 0 where
+  pub stored : Stored capacity buffer (valueOf p words) found buffer′
+  pub marked : marks′ ≡ marksOf p words marks

@@ -1,0 +1,228 @@
+-- What holds of the sweep on every image: a search that does not end its row starts the next one further to the right, and each candidate is fit for the
+-- steps after the sweep. Assumes nothing.
+use Prim.Native.Nat.{ℕ, zero, suc, _+_, _-_, _*_, _/_, _≤_, _<_}
+use native.Mathlib.Omega.{arith}
+use mathlib.Core.Path.{_≡_, refl, sym, ap, _∙_}
+use mathlib.Core.Bool.{Bool, true, false, cond, _||_, true≢false, false≢true}
+use mathlib.Core.List.{List, [], _∷_, _++_}
+use borrow.Author.Tests.{eqb-false, ltb-true, ltb-false}
+use lib.Dec.{eqb, ltb}
+use lib.ListN.{length, getD, replicate, length-append, length-replicate}
+use Rattle.reads.specs.Reads.{Reads, done, Always}
+use Rattle.reads.specs.BitsLaws.{getD-zeros}
+use Rattle.reads.specs.ReadsLaws.{always-done, always-bind, always-after, always-cond}
+use Rattle.records.specs.Records.{Record, Each}
+use Rattle.detector_rows.specs.RowsLaws.{Closed, always-closed}
+use Rattle.detector_rows.specs.declared.Bullseye.{Bullseye}
+use Rattle.detector_columns.specs.ColumnsLaws.{Bounded, verified-bounded}
+use Rattle.detector_columns.specs.Columns.{verifyBullseyeVertical}
+use Rattle.detector_columns.specs.declared.Verified.{Verified}
+use Rattle.detector_candidates.specs.Candidates.{candidateOf, nothing, passed, failed, searchFrom, after, rowFrom, rowsFrom, concentricCircles}
+use Rattle.detector_candidates.specs.declared.Searched.{Searched}
+
+-- ---- a search goes on to the right
+
+pub record Onward (width column : ℕ) (s : Searched) : Type 0 where
+  pub further : s .ended ≡ false → column < s .column
+  pub inside : s .ended ≡ false → s .column < width - 6
+
+module _ {width start : ℕ} {eye : Bullseye} (closed : Closed start width eye) where
+  -- the radius fits left of the centre
+  pub radius-fits : 0 < start → eye .radius ≤ eye .center
+  radius-fits h = omega (arith, closed .after-start, closed .half)
+
+  -- a quarter of the radius into the window lies at or right of the search's start, and left of its limit
+  pub quarter-after : start ≤ eye .center - eye .radius + eye .radius / 4
+  quarter-after = omega (arith, closed .after-start, closed .half, closed .eleven-pixels)
+
+  pub quarter-inside : eye .center - eye .radius + eye .radius / 4 < width - 6
+  quarter-inside = omega (arith, closed .before-limit)
+
+  passed-onward : (row : ℕ) (vertical : List ℕ) → Onward width start (passed row eye vertical)
+  unfolding passed
+  passed-onward row vertical = record {
+    further = λ _. omega (arith, closed .after-start, closed .eleven-pixels);
+    inside = λ _. closed .before-limit;
+  }
+
+  failed-onward : Onward width start (failed start eye)
+  unfolding failed
+  failed-onward = record {
+    further = λ e.
+        let other : eye .center - eye .radius + eye .radius / 4 ≡ start → ⊥ = eqb-false _ _ e in
+        omega (arith, quarter-after, other);
+    inside = λ _. quarter-inside;
+  }
+
+nothing-onward : (width column : ℕ) → Onward width column (nothing column)
+unfolding nothing
+nothing-onward width column = record { further = λ e. absurd (true≢false e); inside = λ e. absurd (true≢false e) }
+
+-- ---- each candidate
+
+-- a candidate of an image of that width and height: the words later steps fill in are zeros, and all are small
+pub record Fit (width height : ℕ) (r : Record) : Type 0 where
+  pub whole : length r ≡ 40
+  pub column : getD r 0 0 < width
+  pub row : getD r 1 0 < height
+  pub least : 6 ≤ getD r 2 0
+  pub most : getD r 2 0 ≤ 1018
+  pub small : (k : ℕ) → getD r k 0 < 65536
+
+or-left : (a b : Bool) → (a || b) ≡ false → a ≡ false
+or-left true b e = e
+or-left false b e = refl
+
+or-right : (a b : Bool) → (a || b) ≡ false → b ≡ false
+or-right true b e = absurd (true≢false e)
+or-right false b e = e
+
+each-append : (P : Record → Type 0) (rs : List Record) (r : Record) → Each P rs → P r → Each P (rs ++ r ∷ [])
+unfolding Each
+each-append P [] r each p = (p, tt)
+each-append P (x ∷ rs) r each p = (each .0, each-append P rs r (each .1) p)
+
+below-append : (most : ℕ) (xs ys : List ℕ) → ((k : ℕ) → getD xs k 0 < most) → ((k : ℕ) → getD ys k 0 < most) → (k : ℕ) → getD (xs ++ ys) k 0 < most
+below-append most [] ys low high k = high k
+below-append most (x ∷ xs) ys low high zero = low 0
+below-append most (x ∷ xs) ys low high (suc k) = below-append most xs ys (λ j. low (suc j)) high k
+
+below-cons : (most x : ℕ) (xs : List ℕ) → x < most → ((k : ℕ) → getD xs k 0 < most) → (k : ℕ) → getD (x ∷ xs) k 0 < most
+below-cons most x xs first rest zero = first
+below-cons most x xs first rest (suc k) = rest k
+
+-- the bounds of the image and of a search's start
+pub record Searchable (width height row column : ℕ) : Type 0 where
+  pub narrow : width ≤ 2048
+  pub low : height ≤ 2048
+  pub above : row < height
+  pub left : 6 ≤ column
+  pub right : column < width - 6
+
+module _ {width height row column : ℕ} (at : Searchable width height row column) {eye : Bullseye} (closed : Closed column width eye) {vertical : List ℕ}
+    (bounded : Bounded height vertical) where
+  candidate-fit : Fit width height (candidateOf row eye vertical)
+  unfolding candidateOf
+  candidate-fit = record {
+    whole = simp (length-append, length-replicate, closed .eleven-runs, bounded .eleven) refl;
+    column = omega (arith, closed .before-limit);
+    row = at .above;
+    least = omega (arith, closed .half, closed .eleven-pixels);
+    most = omega (arith, at .narrow, at .left, closed .after-start, closed .before-limit, closed .half);
+    small =
+        let filled : List ℕ = replicate 15 0 in
+        let runs = eye .buckets ++ vertical ++ filled in
+        below-cons 65536 (eye .center) (row ∷ eye .radius ∷ runs) (omega (arith, at .narrow, closed .before-limit))
+        (below-cons 65536 row (eye .radius ∷ runs) (omega (arith, at .low, at .above))
+        (below-cons 65536 (eye .radius) runs (omega (arith, at .narrow, closed .before-limit))
+        (below-append 65536 (eye .buckets ++ vertical) filled
+        (below-append 65536 (eye .buckets) vertical (λ k. omega (arith, at .narrow, closed .narrow k)) (λ k. omega (arith, at .low, bounded .each .run k)))
+        (λ k. rw (getD-zeros 15 k) (omega arith)))));
+  }
+
+-- where the next search of a row starts
+pub searchable-next : {width height row column : ℕ} {s : Searched} → Searchable width height row column → Onward width column s → s .ended ≡ false
+    → Searchable width height row (s .column)
+searchable-next at onward on = record {
+  narrow = at .narrow;
+  low = at .low;
+  above = at .above;
+  left = omega (arith, at .left, onward .further on);
+  right = onward .inside on;
+}
+
+-- a search's candidate, if it has one
+pub record FitSearch (width height column : ℕ) (s : Searched) : Type 0 where
+  pub onward : Onward width column s
+  pub fit : s .passed ≡ true → Fit width height (s .candidate)
+
+pub search-fit : (rowWords size width height row column : ℕ) → Searchable width height row column
+    → Always (FitSearch width height column) (searchFrom rowWords size width height row column)
+unfolding searchFrom passed failed nothing
+search-fit rowWords size width height row column at =
+    always-bind _ (always-closed rowWords size width row column) λ eye closed.
+    always-cond (eye .found)
+    (λ found.
+    always-bind _ (verified-bounded rowWords size height row (eye .center)) λ seen bounded.
+    always-cond (seen .good)
+    (λ _. always-done (fits-passed (closed found) bounded))
+    (λ _. always-done (fits-failed (closed found))))
+    (λ _. always-done (record { onward = nothing-onward width column; fit = λ e. absurd (false≢true e) }))
+  where
+    fits-passed : {eye : Bullseye} {vertical : List ℕ} → Closed column width eye → Bounded height vertical → FitSearch width height column (passed row eye vertical)
+    fits-passed {eye} {vertical} closed bounded = record { onward = passed-onward closed row vertical; fit = λ _. candidate-fit at closed bounded }
+
+    fits-failed : {eye : Bullseye} → Closed column width eye → FitSearch width height column (failed column eye)
+    fits-failed closed = record { onward = failed-onward closed; fit = λ e. absurd (false≢true e) }
+
+-- ---- candidates are only added
+
+pub after-more : (circles : List Record) (s : Searched) → length circles ≤ length (after circles s)
+after-more circles s = go (s .passed)
+  where
+    go : (b : Bool) → length circles ≤ length (cond b (circles ++ s .candidate ∷ []) circles)
+    go true = simp length-append (omega arith)
+    go false = omega arith
+
+pub row-more : (rowWords size width height capacity n row column : ℕ) (circles : List Record)
+    → Always (λ (now : List Record). length circles ≤ length now) (rowFrom rowWords size width height capacity n row column circles)
+unfolding rowFrom
+row-more rowWords size width height capacity zero row column circles = always-done (omega arith)
+row-more rowWords size width height capacity (suc n) row column circles =
+    always-after (searchFrom rowWords size width height row column) _ λ s.
+    always-cond (s .ended || ltb capacity (length (after circles s)))
+    (λ _. always-done (after-more circles s))
+    (λ _. record { on = λ image. omega (arith, after-more circles s, row-more rowWords size width height capacity n row (s .column) (after circles s) .on image) })
+
+-- ---- the whole sweep
+
+module _ (rowWords size width height capacity : ℕ) where
+  -- what the sweep gives
+  abbrev pub Candidates : List Record → Type 0
+  Candidates circles = Each (Fit width height) circles × (length circles ≤ capacity + 1)
+
+  -- after a search
+  step-fit : {row column : ℕ} (s : Searched) (now : List Record) (rest : Reads (List Record)) → Searchable width height row column → FitSearch width height column s
+      → Candidates now → (Searchable width height row (s .column) → length now ≤ capacity → Always Candidates rest)
+      → Always Candidates (cond (s .ended || ltb capacity (length now)) (done now) rest)
+  step-fit s now rest at fits held goes =
+      always-cond (s .ended || ltb capacity (length now))
+      (λ _. always-done held)
+      (λ on. goes (searchable-next at (fits .onward) (or-left (s .ended) _ on)) (ltb-false capacity (length now) (or-right (s .ended) _ on)))
+
+  -- the candidates after a search
+  now-fit : {column : ℕ} (s : Searched) (circles : List Record) → FitSearch width height column s → Each (Fit width height) circles → length circles ≤ capacity
+      → Candidates (after circles s)
+  now-fit s circles fits each few = go (s .passed) refl
+    where
+      go : (b : Bool) → s .passed ≡ b → Candidates (cond b (circles ++ s .candidate ∷ []) circles)
+      go true e = (each-append (Fit width height) circles (s .candidate) each (fits .fit e), simp length-append (omega arith))
+      go false e = (each, omega arith)
+
+  row-fit : (n row column : ℕ) (circles : List Record) → Searchable width height row column → Each (Fit width height) circles → length circles ≤ capacity
+      → Always Candidates (rowFrom rowWords size width height capacity n row column circles)
+  unfolding rowFrom
+  row-fit zero row column circles at each few = always-done (each, omega arith)
+  row-fit (suc n) row column circles at each few =
+      always-bind _ (search-fit rowWords size width height row column at) λ s fits.
+      let held = now-fit s circles fits each few in
+      step-fit s _ _ at fits held (λ next short. row-fit n row (s .column) _ next (held .0) short)
+
+  rows-fit : (n row : ℕ) (circles : List Record) → width ≤ 2048 → height ≤ 2048 → 12 < width → Each (Fit width height) circles → length circles ≤ capacity
+      → Always Candidates (rowsFrom rowWords size width height capacity n row circles)
+  unfolding rowsFrom
+  rows-fit zero row circles narrow low wide each few = always-done (each, omega arith)
+  rows-fit (suc n) row circles narrow low wide each few =
+      always-cond (ltb row (height - 6))
+      (λ inside.
+      let at : Searchable width height row 6 =
+      record { narrow = narrow; low = low; above = omega (arith, ltb-true row (height - 6) inside); left = omega arith; right = omega arith } in
+      always-bind _ (row-fit width row 6 circles at each few) λ now held.
+      always-cond (ltb capacity (length now))
+      (λ _. always-done held)
+      (λ room. rows-fit n (row + 2) now narrow low wide (held .0) (ltb-false capacity (length now) room)))
+      (λ _. always-done (each, omega arith))
+
+  pub circles-fit : width ≤ 2048 → height ≤ 2048 → 12 < width → Always Candidates (concentricCircles rowWords size width height capacity)
+  unfolding concentricCircles Each
+  circles-fit narrow low wide = rows-fit height 6 [] narrow low wide tt (omega arith)

@@ -1,0 +1,208 @@
+// `find_concentric_circles` of detector.rs: the candidates of an image, into the record buffer that stands for the source's vector of circles.
+ghost use mathlib.Core.Path.{_≡_};
+ghost use mathlib.Core.List.{_++_};
+ghost use Prim.Native.Nat.{_+_, _*_, _^_, _≤_, _<_};
+ghost use lib.ListN.{length, take, drop, replicate};
+ghost use Rattle.reads.specs.Runs.{Ran};
+ghost use Rattle.records.specs.Records.{rows};
+ghost use Rattle.detector_candidates.specs.Candidates.{candidateOf, nothing, passed, failed, searchFrom, after, rowFrom, concentricCircles, Room, Stored, Listed};
+ghost use Rattle.detector_candidates.specs.CandidatesLaws.{Searchable};
+use detector_rows::Bullseye;
+
+// What one search of a row gives: whether a bull's-eye passed, and then its record; whether the row ends, and otherwise where the next search starts.
+pub struct Searched {
+    pub passed: bool,
+    pub ended: bool,
+    pub column: u32,
+    pub candidate: [u32; 40],
+}
+
+// Eleven runs in the place of a record's words from `from` on.
+fn with_runs(fields: [u32; 40], from: usize, runs: [u32; 11]) -> [u32; 40]
+    requires { ⌜ from ≤ 29 ⌝ }
+    ensures { λ r. ⌜ r ≡ take from fields ++ runs ++ drop (from + 11) fields ⌝ }
+{
+    let mut out = fields;
+    let mut k = 0usize;
+    while k < 11 {
+        out[from + k] = runs[k];
+        k += 1;
+    }
+    out
+}
+
+// A candidate's record.
+fn candidate_of(row: u32, eye: Bullseye, vertical: [u32; 11]) -> [u32; 40]
+    ensures { λ r. ⌜ r ≡ candidateOf row eye vertical ⌝ }
+{
+    let mut fields = [0u32; 40];
+    fields[0] = eye.center;
+    fields[1] = row;
+    fields[2] = eye.radius;
+    let horizontal = eye.buckets;
+    let with_row = with_runs(fields, 3, horizontal);
+    with_runs(with_row, 14, vertical)
+}
+
+// No window: the row ends.
+fn nothing_found(column: u32) -> Searched
+    ensures { λ r. ⌜ r ≡ nothing column ⌝ }
+{
+    Searched {
+        passed: false,
+        ended: true,
+        column,
+        candidate: [0; 40],
+    }
+}
+
+// A bull's-eye: the next search starts at the column that closed its window.
+fn bullseye_passed(row: u32, eye: Bullseye, vertical: [u32; 11]) -> Searched
+    requires { ⌜ eye .center + eye .radius < 2 ^ 32 ⌝ }
+    ensures { λ r. ⌜ r ≡ passed row eye vertical ⌝ }
+{
+    let candidate = candidate_of(row, eye, vertical);
+    Searched {
+        passed: true,
+        ended: false,
+        column: eye.center + eye.radius,
+        candidate,
+    }
+}
+
+// A window and no bull's-eye: the next search starts a quarter of the radius into the window, and where this one started there too, the row ends.
+fn bullseye_failed(column: u32, eye: Bullseye) -> Searched
+    requires { ⌜ eye .radius ≤ eye .center ⌝ }
+    ensures { λ r. ⌜ r ≡ failed column eye ⌝ }
+{
+    let radius = eye.radius;
+    let next = eye.center - radius + radius / 4;
+    Searched {
+        passed: false,
+        ended: next == column,
+        column: next,
+        candidate: [0; 40],
+    }
+}
+
+// One search of a row, from a column on: a window, and whether its column passes too.
+fn search_from(
+    words: &[u64],
+    marks: &mut [u64],
+    row_words: usize,
+    width: u32,
+    height: u32,
+    row: u32,
+    column: u32,
+) -> Searched
+    requires { ⌜ (length (now marks) ≡ length (now words)) × («row_words» < 2 ^ 32) ⌝ ∗ ⌜ Searchable width height row column ⌝ }
+    ensures { λ r. ⌜ Ran (searchFrom «row_words» (length (now (words .entry))) width height row column) (now (words .entry)) (now (marks .entry)) r (now (marks .exit)) ⌝ }
+{
+    let eye = detector_rows::find_next_bullseye_horizontal(
+        words,
+        marks,
+        row_words,
+        width,
+        row,
+        column,
+    );
+    if !eye.found {
+        return nothing_found(column);
+    }
+    let center = eye.center;
+    let seen = detector_columns::verify_bullseye_vertical(
+        words,
+        marks,
+        row_words,
+        height,
+        row,
+        center,
+    );
+    if seen.good {
+        let vertical = seen.buckets;
+        return bullseye_passed(row, eye, vertical);
+    }
+    bullseye_failed(column, eye)
+}
+
+// A search's candidate goes behind the others. One more than the capacity is counted and not stored.
+fn append(circles: &mut [u32], capacity: usize, count: usize, s: Searched) -> usize
+    requires { ⌜ Room capacity (now circles) count ⌝ }
+    ensures { λ r. ⌜ Stored capacity (now (circles .entry)) (after (rows count (now (circles .entry))) s) r (now (circles .exit)) ⌝ }
+{
+    if !s.passed {
+        return count;
+    }
+    if count == capacity {
+        return count + 1;
+    }
+    let candidate = s.candidate;
+    records::store(circles, count, &candidate);
+    count + 1
+}
+
+// The candidates of a row, behind the `found` ones that the buffer has. One more than the capacity ends it.
+fn sweep_row(
+    words: &[u64],
+    marks: &mut [u64],
+    circles: &mut [u32],
+    row_words: usize,
+    width: u32,
+    height: u32,
+    capacity: usize,
+    row: u32,
+    found: usize,
+) -> usize
+    requires { ⌜ (length (now marks) ≡ length (now words)) × («row_words» < 2 ^ 32) ⌝ ∗ ⌜ Searchable width height row 6 ⌝ ∗ ⌜ Room capacity (now circles) found ⌝ }
+    ensures { λ r. ⌜ Listed (rowFrom «row_words» (length (now (words .entry))) width height capacity width row 6 (rows found (now (circles .entry)))) capacity (now (words .entry)) (now (marks .entry)) (now (circles .entry)) r (now (marks .exit)) (now (circles .exit)) ⌝ }
+{
+    let mut count = found;
+    let mut column = 6u32;
+    while column < width - 6 {
+        let s = search_from(words, marks, row_words, width, height, row, column);
+        count = append(circles, capacity, count, s);
+        if s.ended {
+            return count;
+        }
+        if count > capacity {
+            return count;
+        }
+        column = s.column;
+    }
+    count
+}
+
+// The candidates of an image, of rows 6, 8 and so on. One more than the capacity ends the sweep.
+pub fn find_concentric_circles(
+    words: &[u64],
+    marks: &mut [u64],
+    circles: &mut [u32],
+    row_words: usize,
+    width: u32,
+    height: u32,
+    capacity: usize,
+) -> usize
+    requires { ⌜ (length (now marks) ≡ length (now words)) × («row_words» < 2 ^ 32) × (12 < width) × (width ≤ 2048) × (12 < height) × (height ≤ 2048) ⌝ ∗ ⌜ Room capacity (now circles) 0 ⌝ }
+    ensures { λ r. ⌜ Listed (concentricCircles «row_words» (length (now (words .entry))) width height capacity) capacity (now (words .entry)) (now (marks .entry)) (now (circles .entry)) r (now (marks .exit)) (now (circles .exit)) ⌝ }
+{
+    let mut found = 0usize;
+    let mut row = 6u32;
+    while row < height - 6 {
+        found = sweep_row(
+            words,
+            marks,
+            circles,
+            row_words,
+            width,
+            height,
+            capacity,
+            row,
+            found,
+        );
+        if found > capacity {
+            return found;
+        }
+        row += 2;
+    }
+    found
+}

@@ -1,0 +1,3 @@
+pub mod RingLaws
+pub mod SkipLaws
+pub mod SweepLaws

@@ -1,0 +1,61 @@
+-- `find_next_bullseye_horizontal` and `get_bullseye_metadata` of detector.rs as reading programs, read pixel by pixel. `rowWords` and `size` are the image's:
+-- words in a row, and in all. Definitions only. Assumes nothing.
+use Prim.Native.Nat.{ℕ, zero, suc, _+_, _-_, _/_}
+use mathlib.Core.Bool.{Bool, true, false, not, cond, _&&_, Bool·beq}
+use mathlib.Core.List.{List, [], _∷_, _++_}
+use lib.Dec.{ltb}
+use lib.ListN.{drop, replicate}
+use Rattle.reads.specs.Reads.{Reads, done, _>>=_}
+use Rattle.bit_matrix.specs.Pixels.{pixel}
+use Rattle.detector_widths.specs.Buckets.{bump}
+use Rattle.detector_widths.specs.Widths.{validWidths}
+use Rattle.detector_rows.specs.declared.Bullseye.{Bullseye}
+
+unfoldable pub total : List ℕ → ℕ
+total [] = 0
+total (n ∷ ns) = n + total ns
+
+-- half the sum of the runs, a half up
+abbrev pub radiusOf : List ℕ → ℕ
+radiusOf buckets = (total buckets + 1) / 2
+
+-- `get_bullseye_metadata` of a window that closed at a column
+unfoldable pub metadata : List ℕ → ℕ → Bullseye
+metadata buckets column = record { found = true; center = column - radiusOf buckets; radius = radiusOf buckets; buckets = buckets }
+
+abbrev pub none : Bullseye
+none = record { found = false; center = 0; radius = 0; buckets = replicate 11 0 }
+
+-- the first run dropped, and the pixel at hand as the first of a new last one
+abbrev pub withoutFirst : List ℕ → List ℕ
+withoutFirst buckets = drop 1 buckets ++ 1 ∷ []
+
+module _ (rowWords size row : ℕ) where
+  -- From a column, over at most n white pixels: the column of the first black one, or the n-th on, which is read too.
+  unfoldable pub skipWhite : ℕ → ℕ → Reads ℕ
+  skipWhite zero column = do
+    _ ← pixel rowWords size column row
+    done column
+  skipWhite (suc n) column = do
+    black ← pixel rowWords size column row
+    cond black (done column) (skipWhite n (column + 1))
+
+  -- With n columns left, in run `pointer`, of colour `last`: a change of colour begins the next run, and after the eleventh it closes the window where the
+  -- runs pass and the pixel is white, or drops the first run.
+  unfoldable pub windowFrom : ℕ → ℕ → Bool → ℕ → List ℕ → Reads Bullseye
+  windowFrom zero column last pointer buckets = done none
+  windowFrom (suc n) column last pointer buckets = do
+    black ← pixel rowWords size column row
+    cond (Bool·beq black last)
+        (windowFrom n (column + 1) last pointer (bump buckets pointer))
+        (cond (ltb pointer 10)
+        (windowFrom n (column + 1) black (pointer + 1) (bump buckets (pointer + 1)))
+        (cond (validWidths buckets && not black)
+        (done (metadata buckets column))
+        (windowFrom n (column + 1) black pointer (withoutFirst buckets))))
+
+-- `find_next_bullseye_horizontal`: leading white is skipped, and then the runs are counted, up to six columns before the width
+unfoldable pub nextBullseye : ℕ → ℕ → ℕ → ℕ → ℕ → Reads Bullseye
+nextBullseye rowWords size width row start = do
+  first ← skipWhite rowWords size row (width - 6 - start) start
+  windowFrom rowWords size row (width - 6 - first) first true 0 (replicate 11 0)
