@@ -1,5 +1,5 @@
 // bit_matrix.rs: the pixels of an image of 64-bit words, true for black, with a mark set for each stored bit that is read.
-// `get` alone decides what is read. An image has rows of `row_words` words; bit c % 64 of word c / 64 of a row is its column c.
+// What is read is the definition `pixel`. An image has rows of `row_words` words; bit c % 64 of word c / 64 of a row is its column c.
 ghost use mathlib.Core.Bool.{true};
 ghost use mathlib.Core.Path.{_≡_};
 ghost use Prim.Native.Nat.{_+_, _-_, _%_, _^_, _≤_, _<_};

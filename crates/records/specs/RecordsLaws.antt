@@ -102,9 +102,6 @@ take-flat (suc n) l =
     let e : 40 * suc n ≡ 40 + 40 * n = omega arith in
     ap (λ (m : ℕ). take m l) e ∙ take-add 40 (40 * n) l ∙ ap (λ (t : List ℕ). take 40 l ++ t) (take-flat n (drop 40 l))
 
-pub flat-rows : (n : ℕ) (l : List ℕ) → flat (rows n l) ++ drop (40 * n) l ≡ l
-flat-rows n l = ap (λ (t : List ℕ). t ++ drop (40 * n) l) (sym (take-flat n l)) ∙ take-append-drop (40 * n) l
-
 pub take-rows : (m n : ℕ) (l : List ℕ) → m ≤ n → take m (rows n l) ≡ rows m l
 unfolding rows
 take-rows zero n l h = refl

@@ -1,0 +1,66 @@
+-- The steps of `keep_and_rank`, one after the other. Assumes nothing.
+use Prim.Native.Nat.{ℕ, _+_, _-_, _*_, _≤_}
+use native.Mathlib.Omega.{arith}
+use mathlib.Core.Path.{_≡_, sym, ap, ap₂, _∙_}
+use mathlib.Core.List.{List, _++_, map, append-assoc}
+use lib.ListN.{length, take, drop, replicate}
+use Rattle.records.specs.Records.{Record, rows, flat, Became, Each}
+use Rattle.records.specs.RecordsLaws.{length-rows, take-flat, rows-front, drop-later, each-filter, each-map, each-both, rows-whole}
+use Rattle.detector_kept.specs.Spread.{spread}
+use Rattle.detector_kept.specs.Retain.{near, retain, Retained}
+use Rattle.detector_rank.specs.Rank.{withVariance, rank, Small, Plain, Rankable}
+use Rattle.detector_rank.specs.RankLaws.{varied-plain}
+use Rattle.detector_kept.specs.Kept.{Candidates, ranked, capacityOf, after, KeptAndRanked}
+use Rattle.detector_kept.specs.declared.Spread.{Spread}
+
+module _ {found : ℕ} {l₀ : List ℕ} (held : Candidates found l₀) {s : Spread} {kept : ℕ} {l₁ : List ℕ} (retained : Retained found s l₀ kept l₁) where
+  pub small : Each Small (rows kept l₁)
+  small = rw (retained .records) (each-filter Small (near s) (rows found l₀) (held .small))
+
+  pub rankable : (l₂ : List ℕ) → Became kept l₁ (map withVariance (rows kept l₁)) l₂ → 40 * kept ≤ length l₁ → length l₂ ≡ length l₁ → Rankable kept l₂
+  rankable l₂ varied room sized = record {
+    few = omega (arith, held .few, retained .few);
+    held = omega arith;
+    numbers =
+        rw (varied .records)
+        (each-map (λ (r : Record). (length r ≡ 40) × Small r) Plain withVariance varied-plain (rows kept l₁)
+        (each-both (λ (r : Record). length r ≡ 40) Small (rows kept l₁) (rows-whole kept l₁ room) small));
+  }
+
+  -- the capacity holds the candidates, and the buffer holds the capacity
+  module _ (capacity n : ℕ) (is : capacity ≡ capacityOf n) (sized : n ≡ length l₀) where
+    below : kept ≤ capacity
+    below = omega (arith, held .few, held .held, retained .few)
+
+    clears : 40 * kept + 40 * (capacity - kept) ≤ n
+    clears = omega (arith, held .few, held .held, retained .few)
+
+    module _ (spreads : s ≡ spread (rows found l₀)) (l₂ : List ℕ) (varied : Became kept l₁ (map withVariance (rows kept l₁)) l₂)
+        (l₃ : List ℕ) (sorted : Became kept l₂ (rank (rows kept l₂)) l₃) where
+      records-are : rows kept l₃ ≡ ranked (rows found l₀)
+      unfolding ranked
+      records-are =
+          sorted .records
+          ∙ ap rank (varied .records ∙ ap (map withVariance) (retained .records ∙ ap (λ (t : Spread). retain t (rows found l₀)) spreads))
+
+      rest-is : drop (40 * capacity) l₃ ≡ drop (40 * capacity) l₀
+      rest-is =
+          drop-later l₃ l₁ (40 * kept) (40 * capacity) (omega (arith, below)) (sorted .rest ∙ varied .rest)
+          ∙ drop-later l₁ l₀ (40 * found) (40 * capacity) (omega (arith, held .few, held .held)) (retained .rest)
+
+      counts : kept ≡ length (ranked (rows found l₀))
+      counts = sym (length-rows kept l₃) ∙ ap length records-are
+
+      pub composed : length l₃ ≡ n → (l₄ : List ℕ) → l₄ ≡ take (40 * kept) l₃ ++ replicate (40 * (capacity - kept)) 0 ++ drop (40 * kept + 40 * (capacity - kept)) l₃
+          → KeptAndRanked found l₀ kept l₄
+      unfolding after
+      composed sized₃ l₄ cleared = record {
+        counted = counts;
+        written =
+            let end : 40 * kept + 40 * (capacity - kept) ≡ 40 * capacity = omega (arith, below) in
+            let full : capacity ≡ capacityOf (length l₀) = is ∙ ap capacityOf sized in
+            cleared
+            ∙ ap₂ (λ (a b : List ℕ). a ++ replicate (40 * (capacity - kept)) 0 ++ b) (take-flat kept l₃ ∙ ap flat records-are) (ap (λ (m : ℕ). drop m l₃) end ∙ rest-is)
+            ∙ ap₂ (λ (c k : ℕ). flat (ranked (rows found l₀)) ++ replicate (40 * (c - k)) 0 ++ drop (40 * c) l₀) full counts;
+        records = ap (rows kept) (cleared ∙ append-assoc (take (40 * kept) l₃) _ _) ∙ rows-front kept l₃ _ (omega (arith, clears)) ∙ records-are;
+      }

@@ -1,0 +1,3 @@
+pub mod Columns
+pub mod Retaining
+pub mod Composing

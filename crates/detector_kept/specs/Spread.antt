@@ -1,0 +1,49 @@
+-- The mean and the standard deviation of the candidates' centres, as `calculate_center_point_std_dev` of detector.rs has them in `f64`. Definitions only. Assumes nothing.
+use Prim.Native.Nat.{ℕ, _+_}
+use mathlib.Core.List.{List, [], _∷_, map}
+use lib.IntN.{pos}
+use lib.ListN.{length, getD}
+use lib.Ieee.{Float, binary64, ofBits, ofInt, add, sub, mul, div, toUnsigned}
+use Rattle.ieee.specs.Sqrt.{sqrt}
+use Rattle.records.specs.Records.{Record}
+use Rattle.detector_kept.specs.declared.Spread.{Spread}
+
+-- word k of each record: 0 is the centre's x, 1 its y
+abbrev pub column : ℕ → List Record → List ℕ
+column k rs = map (λ (r : Record). getD r k 0) rs
+
+abbrev pub number : ℕ → Float
+number n = ofInt binary64 (pos n)
+
+unfoldable pub total : List ℕ → ℕ
+total [] = 0
+total (x ∷ xs) = x + total xs
+
+unfoldable pub mean : List ℕ → Float
+unfolding total ofInt div
+mean xs = div binary64 (number (total xs)) (number (length xs))
+
+-- acc, and the square of how far x is from m
+unfoldable pub further : Float → Float → ℕ → Float
+unfolding ofInt add sub mul
+further m acc x = let off = sub binary64 (number x) m in add binary64 acc (mul binary64 off off)
+
+-- acc, and the squares of the numbers, added in their order
+unfoldable pub squares : Float → Float → List ℕ → Float
+unfolding further
+squares m acc [] = acc
+squares m acc (x ∷ xs) = squares m (further m acc x) xs
+
+unfoldable pub deviation : List ℕ → Float
+unfolding mean squares ofBits ofInt div sqrt
+deviation xs = sqrt binary64 (div binary64 (squares (mean xs) (ofBits binary64 0) xs) (number (length xs)))
+
+-- both truncated, for x and for y
+unfoldable pub spread : List Record → Spread
+unfolding mean deviation toUnsigned
+spread rs = record {
+  «dev_x» = toUnsigned 32 (deviation (column 0 rs));
+  «dev_y» = toUnsigned 32 (deviation (column 1 rs));
+  «mean_x» = toUnsigned 32 (mean (column 0 rs));
+  «mean_y» = toUnsigned 32 (mean (column 1 rs));
+}

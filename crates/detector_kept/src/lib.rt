@@ -1,0 +1,145 @@
+// The candidates of a sweep whose centres lie within the deviation, ranked by variance, as `detect` of detector.rs has
+// them. The record buffer stands for its `Vec<Circle>`.
+ghost use mathlib.Core.Path.{_≡_};
+ghost use Prim.Native.Nat.{_+_, _*_, _≤_, _<_};
+ghost use lib.ListN.{length};
+ghost use Rattle.records.specs.Records.{rows};
+ghost use Rattle.detector_kept.specs.Spread.{column, total, squares, mean, deviation, spread};
+ghost use Rattle.detector_kept.specs.Retain.{within, near, Retained};
+ghost use Rattle.detector_kept.specs.Kept.{Candidates, capacityOf, KeptAndRanked};
+ghost use lib.Ieee as Ieee;
+
+// How far the centres go, and about which mean: both truncated.
+pub struct Spread {
+    pub dev_x: u32,
+    pub dev_y: u32,
+    pub mean_x: u32,
+    pub mean_y: u32,
+}
+
+// The same for one coordinate.
+struct Axis {
+    dev: u32,
+    mean: u32,
+}
+
+// The sum of a coordinate over the candidates: word 0 of a record is the centre's x, word 1 its y.
+fn total_of(words: &[u32], found: usize, axis: usize) -> u32
+    requires { ⌜ Candidates found (now words) ⌝ ∗ ⌜ axis < 40 ⌝ }
+    ensures { λ r. ⌜ r ≡ total (column axis (rows found (now (words .entry)))) ⌝ }
+{
+    let mut sum = 0u32;
+    let mut i = 0usize;
+    while i < found {
+        sum = sum + words[40 * i + axis];
+        i += 1;
+    }
+    sum
+}
+
+// The squares of the distances from the mean, added in the candidates' order.
+fn squares_of(words: &[u32], found: usize, axis: usize, mean: f64) -> f64
+    requires { ⌜ Candidates found (now words) ⌝ ∗ ⌜ axis < 40 ⌝ }
+    ensures { λ r. ⌜ r ≡ squares mean (Ieee.ofBits Ieee.binary64 0) (column axis (rows found (now (words .entry)))) ⌝ }
+{
+    let mut sum = 0.0f64;
+    let mut i = 0usize;
+    while i < found {
+        let off = (words[40 * i + axis] as f64) - mean;
+        sum = sum + off * off;
+        i += 1;
+    }
+    sum
+}
+
+// The mean and the deviation of one coordinate.
+fn axis_of(words: &[u32], found: usize, axis: usize) -> Axis
+    requires { ⌜ Candidates found (now words) ⌝ ∗ ⌜ axis < 40 ⌝ }
+    ensures { λ r. ⌜ (r .dev ≡ Ieee.toUnsigned 32 (deviation (column axis (rows found (now (words .entry)))))) × (r .mean ≡ Ieee.toUnsigned 32 (mean (column axis (rows found (now (words .entry)))))) ⌝ }
+{
+    let n = (found as u32) as f64;
+    let mean = (total_of(words, found, axis) as f64) / n;
+    let dev = ieee::sqrt_f64(squares_of(words, found, axis, mean) / n);
+    Axis {
+        dev: ieee::saturating_f64_to_u32(dev),
+        mean: ieee::saturating_f64_to_u32(mean),
+    }
+}
+
+// `calculate_center_point_std_dev` of detector.rs.
+pub fn calculate_center_point_std_dev(words: &[u32], found: usize) -> Spread
+    requires { ⌜ Candidates found (now words) ⌝ }
+    ensures { λ r. ⌜ r ≡ spread (rows found (now (words .entry))) ⌝ }
+{
+    let x = axis_of(words, found, 0);
+    let y = axis_of(words, found, 1);
+    Spread {
+        dev_x: x.dev,
+        dev_y: y.dev,
+        mean_x: x.mean,
+        mean_y: y.mean,
+    }
+}
+
+// x and the mean are at most dev apart.
+fn is_within(dev: u32, mean: u32, x: u32) -> bool
+    ensures { λ r. ⌜ r ≡ within dev mean x ⌝ }
+{
+    if x < mean {
+        mean - x <= dev
+    } else {
+        x - mean <= dev
+    }
+}
+
+// Both coordinates of the centre are near the mean.
+fn is_near(spread: Spread, fields: &[u32; 40]) -> bool
+    ensures { λ r. ⌜ r ≡ near spread (now (fields .entry)) ⌝ }
+{
+    if is_within(spread.dev_x, spread.mean_x, fields[0]) {
+        is_within(spread.dev_y, spread.mean_y, fields[1])
+    } else {
+        false
+    }
+}
+
+// `detect`'s retain: the near records move to the front, in their order. Their number is returned.
+fn retain_near(words: &mut [u32], found: usize, spread: Spread) -> usize
+    requires { ⌜ 40 * found ≤ length (now words) ⌝ }
+    ensures { λ r. ⌜ Retained found spread (now (words .entry)) r (now (words .exit)) ⌝ }
+{
+    let mut kept = 0usize;
+    let mut i = 0usize;
+    while i < found {
+        let fields = records::load(words, i);
+        i += 1;
+        if is_near(spread, &fields) {
+            records::store(words, kept, &fields);
+            kept += 1;
+        }
+    }
+    kept
+}
+
+// How many records a buffer of n words may hold.
+fn capacity_of(n: usize) -> usize
+    ensures { λ r. ⌜ r ≡ capacityOf n ⌝ }
+{
+    let whole = n / 40;
+    if whole < 1024 { whole } else { 1024 }
+}
+
+// What `detect` of detector.rs does with the sweep's candidates: those within the deviation are kept, with their
+// variance, and ranked by it. The other records become zeros, up to the capacity. The number kept is returned.
+pub fn keep_and_rank(words: &mut [u32], found: usize) -> usize
+    requires { ⌜ Candidates found (now words) ⌝ }
+    ensures { λ r. ⌜ KeptAndRanked found (now (words .entry)) r (now (words .exit)) ⌝ }
+{
+    let spread = calculate_center_point_std_dev(words, found);
+    let kept = retain_near(words, found, spread);
+    detector_rank::set_variances(words, kept);
+    detector_rank::rank_records(words, kept);
+    let capacity = capacity_of(words.len());
+    records::clear(words, 40 * kept, 40 * (capacity - kept));
+    kept
+}
