@@ -10,7 +10,7 @@ use lib.Dec.{leb}
 use lib.ListN.{length, getD, take, drop, set}
 use lib.Seq.{take-suc, take-suc-set, drop-set-lt, getD-drop, drop-drop, take-all, length-take-le}
 use Rattle.records.specs.Records.{Record, rows, get, put, Became, Beside, filter}
-use Rattle.records.specs.RecordsLaws.{length-rows, get-row, length-get, take-rows, replaced, beside-start, beside-then, beside-room}
+use Rattle.records.specs.RecordsLaws.{length-rows, get-row, length-get, get-word, take-rows, replaced, beside-start, beside-then, beside-room}
 use Rattle.detector_kept.specs.Retain.{within, near, retain, Retained}
 use Rattle.detector_kept.specs.declared.Spread.{Spread}
 
@@ -26,14 +26,19 @@ within-above d m x h =
     let e : x - m ≡ (x - m) + (m - x) = omega arith in
     ap (λ (n : ℕ). leb n d) e
 
-module _ (s : Spread) (r : Record) (b : Bool) (x-is : b ≡ within (s .«dev_x») (s .«mean_x») (getD r 0 0)) where
-  pub near-both : (b′ : Bool) → b ≡ true → b′ ≡ within (s .«dev_y») (s .«mean_y») (getD r 1 0) → b′ ≡ near s r
-  unfolding near
-  near-both b′ e y-is = rw (← x-is, e) y-is
+module _ (s : Spread) (l : List ℕ) (i : ℕ) (b : Bool) (x-is : b ≡ within (s .«dev_x») (s .«mean_x») (getD l (40 * i) 0)) where
+  x-near : b ≡ within (s .«dev_x») (s .«mean_x») (getD (get l i) 0 0)
+  x-near =
+      x-is ∙ ap (λ (k : ℕ). within (s .«dev_x») (s .«mean_x») (getD l k 0)) (sym (add-zero (40 * i)))
+      ∙ ap (within (s .«dev_x») (s .«mean_x»)) (sym (get-word l i 0 (omega arith)))
 
-  pub near-not : b ≡ false → false ≡ near s r
+  pub near-both : (b′ : Bool) → b ≡ true → b′ ≡ within (s .«dev_y») (s .«mean_y») (getD l (40 * i + 1) 0) → b′ ≡ near s (get l i)
   unfolding near
-  near-not e = rw (← x-is, e)
+  near-both b′ e y-is = rw (← x-near, e) (y-is ∙ ap (within (s .«dev_y») (s .«mean_y»)) (sym (get-word l i 1 (omega arith))))
+
+  pub near-not : b ≡ false → false ≡ near s (get l i)
+  unfolding near
+  near-not e = rw (← x-near, e)
 
 -- ---- a filter of one element more
 
@@ -75,11 +80,14 @@ drop-more : {A : Type 0} (xs : List A) (i : ℕ) → drop (i + 1) xs ≡ drop 1 
 drop-more xs i = sym (drop-drop 1 i xs)
 
 module _ {found : ℕ} {s : Spread} {l₀ l : List ℕ} {kept i : ℕ} (so-far : Retaining found s l₀ l kept i) where
-  module _ (h : i < found) (r : Record) (read : r ≡ get l i) where
+  module _ (h : i < found) where
+    abbrev r : Record
+    r = get l i
+
     -- record i is still the one that it was
     unmoved : r ≡ getD (rows found l₀) i []
     unmoved =
-        read ∙ sym (get-row found l i h)
+        sym (get-row found l i h)
         ∙ ap (λ (k : ℕ). getD (rows found l) k []) (sym (add-zero i))
         ∙ sym (getD-drop i (rows found l) 0 [])
         ∙ ap (λ (rs : List Record). getD rs 0 []) (so-far .back)
@@ -87,7 +95,7 @@ module _ {found : ℕ} {s : Spread} {l₀ l : List ℕ} {kept i : ℕ} (so-far :
         ∙ ap (λ (k : ℕ). getD (rows found l₀) k []) (add-zero i)
 
     whole : length r ≡ 40
-    whole = ap length read ∙ length-get l i (omega (arith, beside-room (so-far .beside)))
+    whole = length-get l i (omega (arith, beside-room (so-far .beside)))
 
     inside : i < length (rows found l₀)
     inside = omega (arith, length-rows found l₀)

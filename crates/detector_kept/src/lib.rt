@@ -3,7 +3,7 @@
 ghost use mathlib.Core.Path.{_≡_};
 ghost use Prim.Native.Nat.{_+_, _*_, _≤_, _<_};
 ghost use lib.ListN.{length};
-ghost use Rattle.records.specs.Records.{rows};
+ghost use Rattle.records.specs.Records.{rows, get};
 ghost use Rattle.detector_kept.specs.Spread.{column, total, squares, mean, deviation, spread};
 ghost use Rattle.detector_kept.specs.Retain.{within, near, Retained};
 ghost use Rattle.detector_kept.specs.Kept.{Candidates, capacityOf, KeptAndRanked};
@@ -92,12 +92,13 @@ fn is_within(dev: u32, mean: u32, x: u32) -> bool
     }
 }
 
-// Both coordinates of the centre are near the mean.
-fn is_near(spread: Spread, fields: &[u32; 40]) -> bool
-    ensures { λ r. ⌜ r ≡ near spread (now (fields .entry)) ⌝ }
+// Both coordinates of record i's centre are near the mean.
+fn is_near(spread: Spread, words: &[u32], i: usize) -> bool
+    requires { ⌜ 40 * i + 40 ≤ length (now words) ⌝ }
+    ensures { λ r. ⌜ r ≡ near spread (get (now (words .entry)) i) ⌝ }
 {
-    if is_within(spread.dev_x, spread.mean_x, fields[0]) {
-        is_within(spread.dev_y, spread.mean_y, fields[1])
+    if is_within(spread.dev_x, spread.mean_x, words[40 * i]) {
+        is_within(spread.dev_y, spread.mean_y, words[40 * i + 1])
     } else {
         false
     }
@@ -111,10 +112,10 @@ fn retain_near(words: &mut [u32], found: usize, spread: Spread) -> usize
     let mut kept = 0usize;
     let mut i = 0usize;
     while i < found {
-        let fields = records::load(words, i);
+        let at = i;
         i += 1;
-        if is_near(spread, &fields) {
-            records::store(words, kept, &fields);
+        if is_near(spread, words, at) {
+            records::copy(words, at, kept);
             kept += 1;
         }
     }

@@ -31,6 +31,18 @@ pub fn store(words: &mut [u32], i: usize, fields: &[u32; 40])
     }
 }
 
+// Record i, over record j.
+pub fn copy(words: &mut [u32], i: usize, j: usize)
+    requires { ⌜ (40 * i + 40 ≤ length (now words)) × (40 * j + 40 ≤ length (now words)) ⌝ }
+    ensures { λ _. ⌜ now (words .exit) ≡ put (now (words .entry)) j (get (now (words .entry)) i) ⌝ }
+{
+    if i == j {
+        return;
+    }
+    let fields = load(words, i);
+    store(words, j, &fields);
+}
+
 // Records i and j change places.
 pub fn swap(words: &mut [u32], i: usize, j: usize)
     requires { ⌜ (40 * i + 40 ≤ length (now words)) × (40 * j + 40 ≤ length (now words)) ⌝ }

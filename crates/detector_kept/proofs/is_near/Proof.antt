@@ -4,14 +4,29 @@ use borrow.Author.Needs.{needs}
 use Rattle.detector_kept.proofs.is_near.Statement.{statement}
 use Rattle.detector_kept.proofs.is_near.Tie as tie
 
-element-copy-out-is-within : tie.Need-element-copy-out-is-within
-element-copy-out-is-within c = search needs
+mul-is-within : tie.Need-mul-is-within
+mul-is-within c = search needs
+
+mul-is-within-2 : tie.Need-mul-is-within-2
+mul-is-within-2 c = search needs
+
+shared-slice-read-is-within : tie.Need-shared-slice-read-is-within
+shared-slice-read-is-within c = search needs
 
 is-within-requires : tie.Need-is-within-requires
 is-within-requires c κs = search needs
 
-element-copy-out-is-within-2 : tie.Need-element-copy-out-is-within-2
-element-copy-out-is-within-2 c = search needs
+mul-is-within-3 : tie.Need-mul-is-within-3
+mul-is-within-3 c = search needs
+
+add-is-within : tie.Need-add-is-within
+add-is-within c = search needs
+
+mul-is-within-4 : tie.Need-mul-is-within-4
+mul-is-within-4 c = search needs
+
+shared-slice-read-is-within-2 : tie.Need-shared-slice-read-is-within-2
+shared-slice-read-is-within-2 c = search needs
 
 is-within-requires-2 : tie.Need-is-within-requires-2
 is-within-requires-2 c κs = search needs
@@ -26,9 +41,14 @@ pub is-near-spec : {M : Type 1} → statement M
 is-near-spec =
     tie.close
     (tie.spec
-    element-copy-out-is-within
+    mul-is-within
+    mul-is-within-2
+    shared-slice-read-is-within
     is-within-requires
-    element-copy-out-is-within-2
+    mul-is-within-3
+    add-is-within
+    mul-is-within-4
+    shared-slice-read-is-within-2
     is-within-requires-2
     returns
     returns-2)

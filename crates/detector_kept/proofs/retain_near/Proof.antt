@@ -14,17 +14,14 @@ abbrev μ-loop : tie.MeasureT-loop
 loop-holds : tie.Need-loop-holds Inv-loop μ-loop
 loop-holds c = search begins
 
-load-requires : tie.Need-load-requires Inv-loop μ-loop
-load-requires c κs = search needs
-
 add-i : tie.Need-add-i Inv-loop μ-loop
 add-i c = search needs
 
 is-near-requires : tie.Need-is-near-requires Inv-loop μ-loop
 is-near-requires c κs = search needs
 
-store-requires : tie.Need-store-requires Inv-loop μ-loop
-store-requires c κs = search needs
+copy-requires : tie.Need-copy-requires Inv-loop μ-loop
+copy-requires c κs = search needs
 
 add-kept : tie.Need-add-kept Inv-loop μ-loop
 add-kept c = search needs
@@ -54,10 +51,9 @@ retain-near-spec =
     Inv-loop
     μ-loop
     loop-holds
-    load-requires
     add-i
     is-near-requires
-    store-requires
+    copy-requires
     add-kept
     loop-less
     loop-again
