@@ -1,0 +1,86 @@
+-- A symbol's words for each outcome, and what holds of every symbol. Assumes nothing.
+use Prim.Native.Nat.{ℕ, _+_, _^_, _≤_}
+use native.Mathlib.Omega.{arith}
+use mathlib.Core.Path.{_≡_, refl, ap, ap₂, _∙_}
+use mathlib.Core.List.{List, [], _∷_, _++_}
+use lib.Ieee.{binary32, toBits, toUnsigned}
+use lib.ListN.{length, take, length-append}
+use lib.Seq.{take-at, length-take-le}
+use Rattle.ieee.specs.Between.{whole-between, cast-between}
+use Rattle.reads.specs.Reads.{Always}
+use Rattle.reads.specs.ReadsLaws.{always-done, always-bind}
+use Rattle.rxing_result_point.specs.declared.PointU.{PointU}
+use Rattle.rxing_result_point.specs.Points.{real, getPoint}
+use Rattle.detector_boundary.specs.declared.Boundary.{Boundary}
+use Rattle.detector_boundary.specs.Within.{Placed}
+use Rattle.detector_turn.specs.Outcomes.{classOf}
+use Rattle.detector_turn.specs.Scales.{Inner, turnedBy, notTurned, lostAt}
+use Rattle.detector_turn.specs.ScalesLaws.{Ended, ended}
+use Rattle.detector_box.specs.declared.Symbol.{Symbol}
+use Rattle.detector_box.specs.Boxes.{corner, plainCorners, turnedCorner, turnedCorners, cornersOf, symbolOf, symbolAt, fourCorners, symbolWords, withSymbol}
+
+-- ---- the words, for each outcome
+
+module _ (b : Boundary) (center : PointU) where
+  -- with a turn: 1, the scale, the degree as an f32, the corrected centre, the box turned about it, the degree's class
+  pub turned-words : (degree scale : ℕ) → symbolWords (symbolOf b (turnedBy degree scale center))
+      ≡ 1 ∷ scale ∷ toBits binary32 (real degree) ∷ center .x ∷ center .y ∷ fourCorners (turnedCorners b center degree) ++ (classOf degree ∷ [])
+  unfolding symbolWords cornersOf
+  turned-words degree scale = refl
+
+  -- without: 0, no scale, rotation 0, the last corrected centre, the plain box, class 0
+  pub no-turn-words : symbolWords (symbolOf b (notTurned center)) ≡ 0 ∷ 0 ∷ 0 ∷ center .x ∷ center .y ∷ fourCorners (plainCorners b) ++ (0 ∷ [])
+  unfolding symbolWords cornersOf classOf
+  no-turn-words = refl
+
+  -- with a lost centre: 2, the scale that lost it, rotation 0, the last centre inside, the plain box, class 0
+  pub lost-words : (scale : ℕ) → symbolWords (symbolOf b (lostAt scale center))
+      ≡ 2 ∷ scale ∷ 0 ∷ center .x ∷ center .y ∷ fourCorners (plainCorners b) ++ (0 ∷ [])
+  unfolding symbolWords cornersOf classOf
+  lost-words scale = refl
+
+-- ---- a record keeps its first 26 words, and its length
+
+pub first-kept : (fields : List ℕ) (s : Symbol) → length fields ≡ 40 → take 26 (withSymbol fields s) ≡ take 26 fields
+unfolding withSymbol
+first-kept fields s e = take-at (take 26 fields) (symbolWords s) 26 (length-take-le 26 fields (omega arith))
+
+pub length-withSymbol : (fields : List ℕ) (s : Symbol) → length fields ≡ 40 → length (withSymbol fields s) ≡ 40
+unfolding withSymbol symbolWords
+length-withSymbol fields s e = length-append (take 26 fields) (symbolWords s) ∙ ap (λ (n : ℕ). n + 14) (length-take-le 26 fields (omega arith))
+
+-- ---- every symbol
+
+pub boxed : (rowWords size width height radius : ℕ) (center : PointU) → Inner width height center
+    → Always (λ (s : Symbol). Ended width height (s .turn)) (symbolAt rowWords size width height radius center)
+unfolding symbolAt
+boxed rowWords size width height radius center inner = always-bind _ (ended rowWords size width height radius center inner) λ turn e. always-done e
+
+-- ---- corners through f32 and back to u32
+
+cast-back : (n : ℕ) → n ≤ 2 ^ 24 → toUnsigned 32 (real n) ≡ n
+cast-back n h =
+    let ends = cast-between 32 (real n) (omega arith) (whole-between binary32 n h) in
+    omega (arith, ends .0, ends .1)
+
+whole-corner : (center : PointU) (degree x y : ℕ) → x ≤ 2048 → y ≤ 2048
+    → turnedCorner center degree (corner x y) ≡ getPoint center (record { x = x; y = y }) degree
+unfolding turnedCorner
+whole-corner center degree x y column line =
+    ap₂ (λ (a b : ℕ). getPoint center (record { x = a; y = b }) degree) (cast-back x (omega arith)) (cast-back y (omega arith))
+
+-- the casts change no corner of a placed boundary
+pub whole-corners : (b : Boundary) (center : PointU) (degree : ℕ) → Placed b → turnedCorners b center degree
+    ≡ getPoint center (record { x = b .left; y = b .bottom }) degree
+    ∷ getPoint center (record { x = b .left; y = b .top }) degree
+    ∷ getPoint center (record { x = b .right; y = b .bottom }) degree
+    ∷ getPoint center (record { x = b .right; y = b .top }) degree
+    ∷ []
+unfolding plainCorners
+whole-corners b center degree p =
+    simp (
+      whole-corner center degree (b .left) (b .bottom) (omega (arith, p)) (omega (arith, p)),
+      whole-corner center degree (b .left) (b .top) (omega (arith, p)) (omega (arith, p)),
+      whole-corner center degree (b .right) (b .bottom) (omega (arith, p)) (omega (arith, p)),
+      whole-corner center degree (b .right) (b .top) (omega (arith, p)) (omega (arith, p)),
+    )
