@@ -23,7 +23,7 @@ column x from to = map (λ (y : ℕ). (x, y)) (range from (to - from))
 abbrev pub box : ℕ → ℕ → ℕ → ℕ → List Cell
 box left right from to = flatMap (λ (x : ℕ). column x from to) (range left (right - left))
 
--- from x - 1 to x + 1 and from y - 1 to y + 1, cut at 0
+-- three by three about a pixel; at column or row 0 there is nothing before it
 abbrev pub about : ℕ → ℕ → List Cell
 about x y = box (x - 1) (x + 2) (y - 1) (y + 2)
 
@@ -33,14 +33,14 @@ ifCount none some count.Outside = none
 ifCount none some (count.Black n) = some n
 
 module _ (rowWords size width height : ℕ) where
-  -- how many pixels of a list are black, beside those counted before; the first none ends it
+  -- how many pixels of a list are black, beside those counted before, unless one is outside: no later one is looked at then
   unfoldable pub countBlack : List Cell → ℕ → Reads Count
   countBlack [] n = done (count.Black n)
   countBlack (cell ∷ cells) n = do
     sample ← tryGet rowWords size width height (cell .0) (cell .1)
     ifSample (done count.Outside) (λ black. countBlack cells (n + digit black)) sample
 
-  -- black when 2 × set ≥ cells
+  -- at least half of them black
   unfoldable pub tryGetArea : ℕ → ℕ → Reads Sample
   tryGetArea x y = do
     counted ← countBlack (about x y) 0

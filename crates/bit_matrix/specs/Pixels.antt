@@ -12,8 +12,7 @@ use Rattle.bit_matrix.specs.declared.Sample.the-variants.{Outside, Insid
 abbrev pub offset : ℕ → ℕ → ℕ → ℕ
 offset rowWords x y = y * rowWords + x / 64
 
--- `get`: past the last word the pixel is white and nothing is read; otherwise its stored bit is read, even past the width, where it may lie in padding or
--- in the next row
+-- `get`: where a word of the image holds the pixel, that bit is read, be it padding or of the next row; elsewhere the pixel is white, unread
 unfoldable pub pixel : ℕ → ℕ → ℕ → ℕ → Reads Bool
 pixel rowWords size x y = cond (ltb (offset rowWords x y) size) (read (offset rowWords x y * 64 + x % 64) done) (done false)
 
@@ -21,7 +20,8 @@ pixel rowWords size x y = cond (ltb (offset rowWords x y) size) (read (offset ro
 abbrev pub outOfRange : ℕ → ℕ → ℕ → ℕ → Bool
 outOfRange rowWords size x y = leb size (offset rowWords x y)
 
--- `try_get`: none outside the width or height, with nothing read
+-- `try_get`: none outside the width or height, with nothing read. The source's other none, for an offset past the last word, no whole image reaches
+-- (`inside-stored`).
 unfoldable pub tryGet : ℕ → ℕ → ℕ → ℕ → ℕ → ℕ → Reads Sample
 tryGet rowWords size width height x y =
     cond (ltb x width)

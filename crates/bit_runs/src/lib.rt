@@ -64,7 +64,7 @@ pub fn first_black(words: &[u64], first: usize, from: usize, to: usize) -> usize
     to
 }
 
-// Where the colour changes, from a column to the end of its word. `black` is the colour before it.
+// Where the colour changes, from a column to the end of its word. `black` is the colour before it. What the bits above those say is left open.
 pub fn changes(words: &[u64], first: usize, from: usize, black: bool) -> u64
     requires { ⌜ first + from / 64 < 2 ^ 64 ⌝ }
     ensures { λ r. ⌜ Changes (rowBit (now (words .entry)) first) black from (64 - from % 64) r ⌝ }

@@ -1,5 +1,5 @@
--- `calculate_simple_boundary` of detector.rs. A centre less a shift may be negative before it is clamped, so that is an integer.
--- Definitions only. Assumes nothing.
+-- `calculate_simple_boundary` of detector.rs. A coordinate less a shift is an integer, for a clamp takes numbers below zero too. Definitions only.
+-- Assumes nothing.
 use Prim.Native.Nat.{ℕ, _-_, _/_, _≤_, _<_, min, max}
 use lib.Dec.{T}
 use lib.IntN.{ℤ, pos, negsuc, natAbs, _+ℤ_, _-ℤ_}
@@ -29,7 +29,7 @@ pub record Range (low high : ℤ) : Type 0 where
   pub high-natural : T (nonNeg high)
   pub ordered : natAbs low ≤ natAbs high
 
--- half of a symbol's width, and 0.03 of it, in f32
+-- half of a symbol's width, and 0.03 of the width, in f32
 abbrev pub halfWidth : ℕ → Float
 halfWidth width = div binary32 (ofInt binary32 (pos width)) (ofBits binary32 0x4000_0000)
 

@@ -42,7 +42,7 @@ symbolAt rowWords size width height radius center = do
   turn ← tryScales rowWords size width height radius center
   done (symbolOf (plainBoundary width height (center .x) (center .y) radius) turn)
 
--- document 01, "Box, turn and class", the record's words from the outcome on; a corner is x, then y
+-- a corner's two words
 abbrev pub cornerWords : Point → List ℕ
 cornerWords p = toBits binary32 (p .x) ∷ toBits binary32 (p .y) ∷ []
 
@@ -52,6 +52,7 @@ cornerAt ps k = getD ps k (record { x = nan; y = nan })
 abbrev pub fourCorners : List Point → List ℕ
 fourCorners ps = cornerWords (cornerAt ps 0) ++ cornerWords (cornerAt ps 1) ++ cornerWords (cornerAt ps 2) ++ cornerWords (cornerAt ps 3)
 
+-- a record's words 26 to 39 (document 01, "Box, turn and class"): outcome, scale, rotation, centre, corners, class
 unfoldable pub symbolWords : Symbol → List ℕ
 symbolWords s =
     let turn = s .turn in

@@ -12,7 +12,7 @@ ghost use lib.Seq.{sets};
 ghost use Rattle.reads.specs.Runs.{Ran};
 ghost use Rattle.sines.specs.Sines.{sines};
 ghost use Rattle.detector_boundary.specs.Within.{Placed};
-ghost use Rattle.detector_turn.specs.Scales.{Image, Inner};
+ghost use Rattle.detector_turn.specs.Scales.{ImageBounds, Inner};
 ghost use Rattle.detector_box.specs.Boxes.{corner, plainCorners, turnedCorners, cornersOf, symbolAt, cornerWords, withSymbol};
 
 // A symbol's turn, its corners (left, bottom), (left, top), (right, bottom), (right, top), and its class.
@@ -95,7 +95,7 @@ pub fn box_symbol(
     radius: u32,
     table: &[f32; 360],
 ) -> Symbol
-    requires { ⌜ length (now marks) ≡ length (now words) ⌝ ∗ ⌜ Image (length (now words)) «row_words» width height ⌝ ∗ ⌜ Inner width height center ⌝ ∗ ⌜ (6 ≤ radius) × (radius < 2048) ⌝ ∗ ⌜ now table ≡ sines ⌝ }
+    requires { ⌜ length (now marks) ≡ length (now words) ⌝ ∗ ⌜ ImageBounds (length (now words)) «row_words» width height ⌝ ∗ ⌜ Inner width height center ⌝ ∗ ⌜ (6 ≤ radius) × (radius < 2048) ⌝ ∗ ⌜ now table ≡ sines ⌝ }
     ensures { λ r. ⌜ Ran (symbolAt «row_words» (length (now (words .entry))) width height radius center) (now (words .entry)) (now (marks .entry)) r (now (marks .exit)) ⌝ }
 {
     let boundary = detector_boundary::plain_boundary(width, height, center.x, center.y, radius);

@@ -28,7 +28,8 @@ nothing column = record { passed = false; ended = true; column = column; candida
 unfoldable pub passed : ℕ → Bullseye → List ℕ → Searched
 passed row eye vertical = record { passed = true; ended = false; column = eye .center + eye .radius; candidate = candidateOf row eye vertical }
 
--- a window and no bull's-eye: the next search starts a quarter of the radius into the window. If this one started there, the row ends.
+-- a window and no bull's-eye: the next search starts a quarter of the radius right of the centre less the radius, which is the window's first column, or
+-- for an odd sum of runs the one before it. If this search started there, the row ends.
 unfoldable pub failed : ℕ → Bullseye → Searched
 failed column eye =
     let next = eye .center - eye .radius + eye .radius / 4 in
@@ -58,7 +59,7 @@ module _ (rowWords size width height : ℕ) where
       let now = after circles s
       cond (s .ended || ltb capacity (length now)) (done now) (rowFrom n row (s .column) now)
 
-    -- every second row, up to six before the height; the height is more than enough fuel
+    -- every second row, below the height less six; the height is more than enough fuel
     unfoldable pub rowsFrom : ℕ → ℕ → List Record → Reads (List Record)
     rowsFrom zero row circles = done circles
     rowsFrom (suc n) row circles =
@@ -73,7 +74,7 @@ module _ (rowWords size width height : ℕ) where
 
 -- ---- the buffer
 
--- `count` candidates stand in a buffer that has room for the capacity
+-- `count` candidates stand in a buffer that has room for the capacity, at most 1,024
 pub record Room (capacity : ℕ) (buffer : List ℕ) (count : ℕ) : Type 0 where
   pub few : count ≤ capacity
   pub most : capacity ≤ 1024

@@ -31,7 +31,7 @@ module _ {width start : ℕ} {eye : Bullseye} (closed : Closed start width eye) 
   pub radius-fits : 0 < start → eye .radius ≤ eye .center
   radius-fits h = omega (arith, closed .after-start, closed .half)
 
-  -- a quarter of the radius into the window lies at or right of the search's start, and left of its limit
+  -- where a search goes on after a window that failed: at or right of its start, and left of its limit
   pub quarter-after : start ≤ eye .center - eye .radius + eye .radius / 4
   quarter-after = omega (arith, closed .after-start, closed .half, closed .eleven-pixels)
 
@@ -60,7 +60,7 @@ nothing-onward width column = record { further = λ e. absurd (true≢false e); 
 
 -- ---- each candidate
 
--- a candidate of an image of that width and height: the words later steps fill in are zeros, and all are small
+-- a candidate of an image of that width and height, all of its words small
 pub record Fit (width height : ℕ) (r : Record) : Type 0 where
   pub whole : length r ≡ 40
   pub column : getD r 0 0 < width

@@ -70,7 +70,7 @@ fn bullseye_passed(row: u32, eye: Bullseye, vertical: [u32; 11]) -> Searched
     }
 }
 
-// A window and no bull's-eye: the next search starts a quarter of the radius into the window, and where this one started there too, the row ends.
+// A window and no bull's-eye: the next search starts about a quarter of the radius into the window, and where this one started there too, the row ends.
 fn bullseye_failed(column: u32, eye: Bullseye) -> Searched
     requires { ⌜ eye .radius ≤ eye .center ⌝ }
     ensures { λ r. ⌜ r ≡ failed column eye ⌝ }

@@ -21,15 +21,16 @@ infixl 7 _⊗_
 abbrev _⊗_ : Float → Float → Float
 x ⊗ y = mul binary32 x y
 
-abbrev norm : Point → Float
-norm p = p .x ⊗ p .x ⊕ p .y ⊗ p .y
+-- x squared and y squared
+abbrev squaredLength : Point → Float
+squaredLength p = p .x ⊗ p .x ⊕ p .y ⊗ p .y
 
 -- `find_center`
 unfoldable pub findCenter : Point → Point → Point → Point
 findCenter p q r =
     let a = p .x ⊗ (q .y ⊖ r .y) ⊖ p .y ⊗ (q .x ⊖ r .x) ⊕ (q .x ⊗ r .y ⊖ r .x ⊗ q .y) in
-    let bx = norm p ⊗ (r .y ⊖ q .y) ⊕ norm q ⊗ (p .y ⊖ r .y) ⊕ norm r ⊗ (q .y ⊖ p .y) in
-    let by = norm p ⊗ (q .x ⊖ r .x) ⊕ norm q ⊗ (r .x ⊖ p .x) ⊕ norm r ⊗ (p .x ⊖ q .x) in
+    let bx = squaredLength p ⊗ (r .y ⊖ q .y) ⊕ squaredLength q ⊗ (p .y ⊖ r .y) ⊕ squaredLength r ⊗ (q .y ⊖ p .y) in
+    let by = squaredLength p ⊗ (q .x ⊖ r .x) ⊕ squaredLength q ⊗ (r .x ⊖ p .x) ⊕ squaredLength r ⊗ (p .x ⊖ q .x) in
     record { x = abs (div binary32 bx (real 2 ⊗ a)); y = abs (div binary32 by (real 2 ⊗ a)) }
 
 -- `calculate_high_accuracy_center`: through both ends at 7 degrees and the left end at 97, whose right end is unused

@@ -1,4 +1,4 @@
-// `calculate_high_accuracy_center` of detector.rs: a circle's own centre is replaced by the corrected one.
+// `calculate_high_accuracy_center` of detector.rs: the corrected centre, written into a circle that is lent.
 use rxing_result_point::PointU;
 ghost use mathlib.Core.Path.{_≡_};
 ghost use lib.ListN.{length};
@@ -7,12 +7,13 @@ ghost use Rattle.sines.specs.Sines.{sines};
 ghost use Rattle.detector_walks.specs.Walks.{CenterWithin};
 ghost use Rattle.detector_center.specs.Center.{corrected};
 
+// What the centre's correction has of the source's circle; the image is lent beside it, and the runs have no part in it.
 pub struct Circle {
     pub center: PointU,
     pub radius: u32,
 }
 
-// The corrected centre, under one fact: what the proof of the function below cites.
+// The corrected centre, its conditions as one fact, so that the proof by hand below cites one.
 fn center_of(
     words: &[u64],
     marks: &mut [u64],

@@ -26,7 +26,7 @@ rowsLeft true height row = cond (ltb 0 row) (height - row) 0
 rowsLeft false height row = cond (ltb row height) row 0
 
 module _ (rowWords size column : ℕ) (lookingUp : Bool) where
-  -- with n rows left. The pixel that opens a seventh run is read, and ends it.
+  -- with n rows left. The pixel that opens a seventh run is read, and ends the count.
   unfoldable pub vectorFrom : ℕ → ℕ → Bool → ℕ → List ℕ → Reads (List ℕ)
   vectorFrom zero row last pointer buckets = done buckets
   vectorFrom (suc n) row last pointer buckets = do
@@ -46,7 +46,7 @@ potentialBullseyeArray v w = at v 5 ∷ at v 4 ∷ at v 3 ∷ at v 2 ∷ at v 1 
 
 -- ---- `verify_bullseye_vertical`
 module _ (rowWords size height row : ℕ) where
-  -- the eleven runs of a column: up is looked first, and stands last
+  -- the eleven runs of a column: up is read first, and stands last
   unfoldable pub potentialBullseye : ℕ → Reads (List ℕ)
   potentialBullseye column = do
     up ← columnVector rowWords size height column row true

@@ -1,5 +1,5 @@
--- The loop over degrees in `attempt_rotation_box` of detector.rs: six groups of three points, turned about the centre. At a degree the points are looked at in
--- order; the first of the wrong colour ends the degree, and the first whose area is not inside the image ends all degrees. Assumes nothing.
+-- The loop over degrees in `attempt_rotation_box` of detector.rs: six groups of three points, turned about the centre. At a degree the points are looked at one
+-- after another; one of the other colour ends it there, and one whose area is not inside the image ends all degrees. Assumes nothing.
 use Prim.Native.Nat.{ℕ, zero, suc, _+_, _*_, _/_, _%_}
 use mathlib.Core.Bool.{Bool, not, cond}
 use mathlib.Core.List.{List, []}
@@ -14,7 +14,7 @@ use Rattle.sines.specs.Sines.{sineOf, cosineOf}
 use Rattle.rxing_result_point.specs.declared.PointU.{PointU}
 use Rattle.rxing_result_point.specs.Points.{turned}
 use Rattle.detector_degrees.specs.declared.Degree.{Degree}
-use Rattle.detector_degrees.specs.declared.Degree.the-variants.{Found, Not, Outside}
+use Rattle.detector_degrees.specs.declared.Degree.the-variants.{Found, WrongColour, Outside}
 use Rattle.detector_degrees.specs.declared.Rotation.{Rotation}
 use Rattle.detector_degrees.specs.declared.Rotation.the-variants as rotation
 
@@ -28,9 +28,9 @@ rightColour k black = cond (ltb k 3) black (cond (ltb k 6) (not black) (cond (eq
 
 -- by cases on a degree's answer
 abbrev pub ifDegree : {B : Type 0} → B → B → B → Degree → B
-ifDegree found not outside Found = found
-ifDegree found not outside Not = not
-ifDegree found not outside Outside = outside
+ifDegree found wrong outside Found = found
+ifDegree found wrong outside WrongColour = wrong
+ifDegree found wrong outside Outside = outside
 
 -- by cases on a rotation
 abbrev pub ifRotation : {B : Type 0} → B → (ℕ → B) → Rotation → B
@@ -48,7 +48,7 @@ module _ (rowWords size width height : ℕ) (center : PointU) where
     pointsFrom sin cos zero k = done Found
     pointsFrom sin cos (suc n) k = do
       sample ← lookAt sin cos (pointOf groups k)
-      ifSample (done Outside) (λ black. cond (rightColour k black) (pointsFrom sin cos n (k + 1)) (done Not)) sample
+      ifSample (done Outside) (λ black. cond (rightColour k black) (pointsFrom sin cos n (k + 1)) (done WrongColour)) sample
 
     unfoldable pub testDegree : Float → Float → Reads Degree
     testDegree sin cos = pointsFrom sin cos 18 0

@@ -8,7 +8,7 @@ use Rattle.reads.specs.ReadsLaws.{always-done, always-after}
 use Rattle.rxing_result_point.specs.declared.PointU.{PointU}
 use Rattle.detector_degrees.specs.Degrees.{ifDegree, ifRotation, degreesFrom, tryDegrees}
 use Rattle.detector_degrees.specs.declared.Degree.{Degree}
-use Rattle.detector_degrees.specs.declared.Degree.the-variants.{Found, Not, Outside}
+use Rattle.detector_degrees.specs.declared.Degree.the-variants.{Found, WrongColour, Outside}
 use Rattle.detector_degrees.specs.declared.Rotation.{Rotation}
 use Rattle.detector_degrees.specs.declared.Rotation.the-variants as rotation
 
@@ -26,7 +26,7 @@ module _ (rowWords size width height : ℕ) (center : PointU) (groups : List (Li
       next : Always Tried (degreesFrom rowWords size width height center groups n (i + 1)) → (tested : Degree)
           → Always Tried (ifDegree (done (rotation.Found (i * 2))) (degreesFrom rowWords size width height center groups n (i + 1)) (done rotation.None) tested)
       next rest Found = always-done (record { even = omega arith; low = omega arith })
-      next rest Not = rest
+      next rest WrongColour = rest
       next rest Outside = always-done (record { even = refl; low = omega arith })
 
   pub tried : Always Tried (tryDegrees rowWords size width height center groups)

@@ -14,7 +14,7 @@ use Rattle.rxing_result_point.specs.declared.PointU.{PointU}
 use Rattle.rxing_result_point.specs.Points.{turned}
 use Rattle.detector_degrees.specs.Degrees.{pointOf, rightColour, lookAt, pointsFrom, testDegree, degreesFrom, tryDegrees}
 use Rattle.detector_degrees.specs.declared.Degree.{Degree}
-use Rattle.detector_degrees.specs.declared.Degree.the-variants.{Found, Not, Outside}
+use Rattle.detector_degrees.specs.declared.Degree.the-variants.{Found, WrongColour, Outside}
 use Rattle.detector_degrees.specs.declared.Rotation.{Rotation}
 use Rattle.detector_degrees.specs.declared.Rotation.the-variants as rotation
 
@@ -44,8 +44,8 @@ abbrev testAt : List (List PointU) → Degree
 testAt groups = valueOf (testDegree 1 33 33 33 center groups (sineOf 0) (cosineOf 0)) words
 
 -- each point has its colour, or the colours are exchanged; the first point that is wrong or outside decides
-pub near-test : (testAt (groupsOf black white) ≡ Found) × (testAt (groupsOf white black) ≡ Not)
-    × (testAt (groupsOf black outside) ≡ Outside) × (testAt (groupsOf white outside) ≡ Not)
+pub near-test : (testAt (groupsOf black white) ≡ Found) × (testAt (groupsOf white black) ≡ WrongColour)
+    × (testAt (groupsOf black outside) ≡ Outside) × (testAt (groupsOf white outside) ≡ WrongColour)
 unfolding valueOf value _>>=_ testBit bitAt range flatMap pixel tryGet countBlack tryGetArea ofBits ofInt add sub mul toUnsigned turned abs sines sineOf pointOf rightColour lookAt pointsFrom testDegree
 near-test = (refl, refl, refl, refl)
 

@@ -11,7 +11,7 @@ ghost use Rattle.detector_degrees.specs.Degrees.{rightColour, lookAt, te
 // What a degree's test answers. A point outside the image ends the scale.
 pub enum Degree {
     Found,
-    Not,
+    WrongColour,
     Outside,
 }
 
@@ -94,7 +94,7 @@ pub fn test_degree(
             }
             Sample::Inside(black) => {
                 if !right_colour(k, black) {
-                    return Degree::Not;
+                    return Degree::WrongColour;
                 }
             }
         }
@@ -130,7 +130,7 @@ pub fn try_degrees(
             Degree::Outside => {
                 return Rotation::None;
             }
-            Degree::Not => {}
+            Degree::WrongColour => {}
         }
         i += 1;
     }

@@ -1,5 +1,5 @@
--- The runs of a window by the columns where they start, kept in a ring of sixteen, and what a sweep that marks nothing is to find. Definitions only.
--- Assumes nothing.
+-- How the code keeps the runs of a window, by the columns where they start, in a ring of sixteen, and what its sweep that marks nothing is to find.
+-- Definitions only; no result is defined here. Assumes nothing.
 use Prim.Native.Nat.{ℕ, zero, suc, _+_, _-_, _*_, _%_, _≤_}
 use mathlib.Core.Bool.{Bool, true, false, cond, _&&_}
 use mathlib.Core.Path.{_≡_}

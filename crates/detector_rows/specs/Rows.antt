@@ -31,7 +31,7 @@ abbrev pub withoutFirst : List ℕ → List ℕ
 withoutFirst buckets = drop 1 buckets ++ 1 ∷ []
 
 module _ (rowWords size row : ℕ) where
-  -- From a column, over at most n white pixels: the column of the first black one, or the n-th on, which is read too.
+  -- From a column, over at most n white pixels: the column of the first black one, or the column n further on, read too, whatever its colour.
   unfoldable pub skipWhite : ℕ → ℕ → Reads ℕ
   skipWhite zero column = do
     _ ← pixel rowWords size column row
@@ -40,7 +40,7 @@ module _ (rowWords size row : ℕ) where
     black ← pixel rowWords size column row
     cond black (done column) (skipWhite n (column + 1))
 
-  -- With n columns left, in run `pointer`, of colour `last`: a change of colour begins the next run, and after the eleventh it closes the window where the
+  -- With n columns left, in run `pointer`, of colour `last` (true for black): a change of colour begins the next run, and after the eleventh it closes the window where the
   -- runs pass and the pixel is white, or drops the first run.
   unfoldable pub windowFrom : ℕ → ℕ → Bool → ℕ → List ℕ → Reads Bullseye
   windowFrom zero column last pointer buckets = done none
@@ -54,7 +54,7 @@ module _ (rowWords size row : ℕ) where
         (done (metadata buckets column))
         (windowFrom n (column + 1) black pointer (withoutFirst buckets))))
 
--- `find_next_bullseye_horizontal`: leading white is skipped, and then the runs are counted, up to six columns before the width
+-- `find_next_bullseye_horizontal`: leading white is skipped, and then the runs are counted, in columns below the width less six
 unfoldable pub nextBullseye : ℕ → ℕ → ℕ → ℕ → ℕ → Reads Bullseye
 nextBullseye rowWords size width row start = do
   first ← skipWhite rowWords size row (width - 6 - start) start

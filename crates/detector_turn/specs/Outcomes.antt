@@ -18,6 +18,6 @@ outcomeNumber outcome = ifOutcome (λ rotation. 1) 0 2 outcome
 abbrev pub rotationBits : Outcome → ℕ
 rotationBits outcome = ifOutcome (toBits binary32) 0 0 outcome
 
--- the class of a turn: quarters of a full turn, to the nearest
+-- the class of a turn: quarters of a full turn, to the nearest; the fourth is the zeroth
 unfoldable pub classOf : ℕ → ℕ
 classOf degree = (degree + 45) / 90 % 4

@@ -17,8 +17,8 @@ use Rattle.detector_degrees.specs.Degrees.{ifRotation, tryDegrees}
 use Rattle.detector_turn.specs.declared.Turn.{Turn}
 use Rattle.detector_turn.specs.declared.Outcome.the-variants.{Turned, NoTurn, LostCentre}
 
--- an image of 33 to 2,048 columns and rows, in rows of at most 32 words
-pub record Image (size rowWords width height : ℕ) : Type 0 where
+-- bounds that every accepted image meets: 33 to 2,048 columns and rows, at most 32 words in a row, and no more rows of words than 2,048
+pub record ImageBounds (size rowWords width height : ℕ) : Type 0 where
   pub wide : 33 ≤ width
   pub narrow : width ≤ 2048
   pub high : 33 ≤ height

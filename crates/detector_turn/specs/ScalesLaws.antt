@@ -20,7 +20,7 @@ use Rattle.detector_degrees.specs.Degrees.{ifRotation}
 use Rattle.detector_degrees.specs.DegreesLaws.{Tried, tried}
 use Rattle.detector_turn.specs.declared.Turn.{Turn}
 use Rattle.detector_turn.specs.Outcomes.{ifOutcome, rotationBits}
-use Rattle.detector_turn.specs.Scales.{Image, Inner, acceptedScales, acceptedScale, turnedBy, isOutside, attemptRotationBox, scalesFrom, tryScales}
+use Rattle.detector_turn.specs.Scales.{ImageBounds, Inner, acceptedScales, acceptedScale, turnedBy, isOutside, attemptRotationBox, scalesFrom, tryScales}
 
 -- A degree is even and at most 348, and 0 without a turn. The rotation is the degree as an f32. With a turn or a lost centre the scale is 1 to 5, else 0.
 -- The centre lies inside the image.
@@ -42,7 +42,7 @@ inner-of width height p e =
     let parts = neither (leb width (p .x)) (leb height (p .y)) e in
     record { column = leb-false _ _ (parts .0); line = leb-false _ _ (parts .1) }
 
-pub pixel-of : {size rowWords width height : ℕ} {p : PointU} → Image size rowWords width height → Inner width height p → Pixel width height (p .x) (p .y)
+pub pixel-of : {size rowWords width height : ℕ} {p : PointU} → ImageBounds size rowWords width height → Inner width height p → Pixel width height (p .x) (p .y)
 pixel-of image inner = record {
   wide = image .wide;
   narrow = image .narrow;

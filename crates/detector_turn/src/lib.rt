@@ -10,9 +10,9 @@ ghost use Rattle.reads.specs.Runs.{Ran};
 ghost use Rattle.sines.specs.Sines.{sines};
 ghost use Rattle.detector_boundary.specs.Size.{isScale};
 ghost use Rattle.detector_turn.specs.Outcomes.{outcomeNumber, rotationBits, classOf};
-ghost use Rattle.detector_turn.specs.Scales.{Image, Inner, acceptedScale, turnedBy, notTurned, lostAt, isOutside, attemptRotationBox, tryScales};
+ghost use Rattle.detector_turn.specs.Scales.{ImageBounds, Inner, acceptedScale, turnedBy, notTurned, lostAt, isOutside, attemptRotationBox, tryScales};
 
-// The turn in degrees, no turn, or a lost centre.
+// What the scales come to. With a turn its degrees, as f32.
 pub enum Outcome {
     Turned(f32),
     NoTurn,
@@ -93,7 +93,7 @@ pub fn attempt_rotation_box(
     scale: f64,
     table: &[f32; 360],
 ) -> Rotation
-    requires { ⌜ length (now marks) ≡ length (now words) ⌝ ∗ ⌜ Image (length (now words)) «row_words» width height ⌝ ∗ ⌜ Inner width height center ⌝ ∗ ⌜ (6 ≤ radius) × (radius < 2048) × T (isScale scale) ⌝ ∗ ⌜ now table ≡ sines ⌝ }
+    requires { ⌜ length (now marks) ≡ length (now words) ⌝ ∗ ⌜ ImageBounds (length (now words)) «row_words» width height ⌝ ∗ ⌜ Inner width height center ⌝ ∗ ⌜ (6 ≤ radius) × (radius < 2048) × T (isScale scale) ⌝ ∗ ⌜ now table ≡ sines ⌝ }
     ensures { λ r. ⌜ Ran (attemptRotationBox «row_words» (length (now (words .entry))) width height radius center scale) (now (words .entry)) (now (marks .entry)) r (now (marks .exit)) ⌝ }
 {
     let boundary = detector_boundary::scaled_boundary(
@@ -128,7 +128,7 @@ pub fn try_scales(
     radius: u32,
     table: &[f32; 360],
 ) -> Turn
-    requires { ⌜ length (now marks) ≡ length (now words) ⌝ ∗ ⌜ Image (length (now words)) «row_words» width height ⌝ ∗ ⌜ Inner width height center ⌝ ∗ ⌜ (6 ≤ radius) × (radius < 2048) ⌝ ∗ ⌜ now table ≡ sines ⌝ }
+    requires { ⌜ length (now marks) ≡ length (now words) ⌝ ∗ ⌜ ImageBounds (length (now words)) «row_words» width height ⌝ ∗ ⌜ Inner width height center ⌝ ∗ ⌜ (6 ≤ radius) × (radius < 2048) ⌝ ∗ ⌜ now table ≡ sines ⌝ }
     ensures { λ r. ⌜ Ran (tryScales «row_words» (length (now (words .entry))) width height radius center) (now (words .entry)) (now (marks .entry)) r (now (marks .exit)) ⌝ }
 {
     let mut last = center;

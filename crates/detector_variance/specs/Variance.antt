@@ -1,4 +1,4 @@
--- `calculate_circle_variance` of detector.rs in f32 (document 01, "Kept and ranked"): each operation is rounded once, and sums go in index order.
+-- `calculate_circle_variance` of detector.rs in f32 (document 01, "Kept and ranked"). Every `add`, `sub`, `mul` and `div` rounds, and a sum starts at run 0.
 -- Definitions only. Assumes nothing.
 use Prim.Native.Nat.{ℕ, zero, suc, _+_, _*_, _/_, _<_}
 use mathlib.Core.Path.{_≡_}
@@ -17,11 +17,11 @@ takes t i = eqb (getD t i 0) 1
 abbrev pub evens : List ℕ
 evens = 1 ∷ 0 ∷ 1 ∷ 0 ∷ 1 ∷ 0 ∷ 1 ∷ 0 ∷ 1 ∷ 0 ∷ 1 ∷ []
 
--- the odd width sum takes 1, 3, 7 and 9
+-- of the odd runs, all but the middle one: what the odd module size is made of
 abbrev pub odds : List ℕ
 odds = 0 ∷ 1 ∷ 0 ∷ 1 ∷ 0 ∷ 0 ∷ 0 ∷ 1 ∷ 0 ∷ 1 ∷ 0 ∷ []
 
--- the odd deviation sum takes all but 0 and 5
+-- every run but the first and the middle one, even ones too: what is held against the odd module size
 abbrev pub others : List ℕ
 others = 0 ∷ 1 ∷ 1 ∷ 1 ∷ 1 ∷ 0 ∷ 1 ∷ 1 ∷ 1 ∷ 1 ∷ 1 ∷ []
 
@@ -67,7 +67,7 @@ variance h v =
     let circle = areaVariance (expectedArea (getD v 5 0)) (expectedArea (getD h 5 0)) in
     div binary32 (add binary32 (add binary32 even odd) circle) (ofBits binary32 0x4040_0000)
 
--- eleven runs, each far below 2 ^ 16
+-- eleven runs, each below 2 ^ 16
 pub record Short (l : List ℕ) : Type 0 where
   pub eleven : length l ≡ 11
   pub small : (k : ℕ) → getD l k 0 < 65536

@@ -1,5 +1,5 @@
 // `calculate_circle_variance` of detector.rs: how far a candidate's runs are from even, in f32. The helpers over floats
-// ask nothing of their argument, so no proof here says anything of a float's range.
+// ask nothing of their argument, so no function's proof needs a float's range.
 ghost use mathlib.Core.Path.{_≡_};
 ghost use Prim.Native.Nat.{_<_};
 ghost use Rattle.detector_variance.specs.Variance.{widthTo, further, varianceTo, expectedArea, areaVariance, moduleSize, variance, Short};

@@ -27,7 +27,7 @@ firstColumn center left = cond left (center .x) (center .x + 1)
 abbrev pub reachOf : ℤ → ℕ
 reachOf u = cond (negative u) 4096 2048
 
--- so many columns right of the centre the walk has ended
+-- a walk to the right ends within so many steps
 unfoldable pub stepsOf : ℤ → ℕ
 stepsOf u = reachOf u * 2 ^ 29 / natAbs u + 1
 
@@ -61,7 +61,7 @@ module _ (rowWords size : ℕ) where
       white ← whitePoint (walkPoint center sin cos x)
       cond white (rightFrom fuel (x + 1)) (done (walkPoint center sin cos x))
 
-    -- the walk to the left, or to the right
+    -- the walk to the left (true), or to the right
     unfoldable pub walk : Bool → Reads Point
     walk true = leftFrom (firstColumn center true)
     walk false = rightFrom (stepsRight sin) (firstColumn center false)
@@ -77,7 +77,7 @@ module _ (rowWords size : ℕ) where
   abbrev pub findWidthAtDegree : PointU → ℕ → Reads Ends
   findWidthAtDegree center degree = findEnds center (sineOf degree) (cosineOf degree)
 
--- an image of at most 32 words by 2,048 rows, and a centre in such an image
+-- an image of at most 32 words by 2,048 rows, and a centre with both coordinates below 2,048
 pub record CenterWithin (size rowWords : ℕ) (center : PointU) : Type 0 where
   pub narrow : rowWords ≤ 32
   pub fit : size ≤ rowWords * 2048

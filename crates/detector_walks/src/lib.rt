@@ -1,6 +1,6 @@
 // `find_width_at_degree` of detector.rs: the walks from a centre to the left and to the right, column by column of the centre's row, each
 // point turned about the centre, until one is black or lies past the image's last word. Each stored bit that is read is marked.
-// The source's third result, the length of both walks, is left out: the corrected centre has no use for it.
+// The source's first result, the length of both walks, is left out: the corrected centre has no use for it.
 use rxing_result_point::Point;
 use rxing_result_point::PointU;
 ghost use mathlib.Core.Path.{_≡_};
@@ -27,8 +27,8 @@ fn is_white(words: &[u64], marks: &mut [u64], row_words: usize, x: u32, y: u32) 
     !bit_matrix::get(words, marks, row_words, x, y)
 }
 
-// Whether the walk goes on from column x. The operations are those of `get_point`, in its order; written out, so that what the centre alone decides is
-// computed once for a walk.
+// Whether the walk goes on from column x. The operations are those of `get_point`, in its order; written out, so that what the centre alone decides
+// can be taken out of the loop.
 fn goes_on(
     words: &[u64],
     marks: &mut [u64],

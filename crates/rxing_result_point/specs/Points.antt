@@ -16,7 +16,7 @@ real n = ofInt binary32 (pos n)
 abbrev pub past : ℕ → ℕ → Float
 past center n = sub binary32 (real n) (real center)
 
--- `original` turned about `center` by the angle with this sine and cosine, without its signs
+-- `original` turned about `center` by the angle with this sine and cosine, the sign of each coordinate cleared
 unfoldable pub turned : PointU → PointU → Float → Float → Point
 turned center original sin cos =
     let u = past (center .x) (original .x) in

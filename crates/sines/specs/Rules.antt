@@ -39,5 +39,5 @@ pub record SineRules (degree : ℕ) : Type 0 where
   pub half-turn : scaledSine (degree + 180) ≡ negℤ (scaledSine degree)
   -- the squares of sine and cosine sum to 1
   pub squares : Near (scaledSine degree *ℤ scaledSine degree +ℤ scaledCosine degree *ℤ scaledCosine degree) (pos (2 ^ 58))
-  -- the next sine is by the sum rule of one degree
+  -- the sine one degree on, by the sum rule
   pub next : Near (scaledSine (degree + 1) *ℤ pos (2 ^ 29)) (scaledSine degree *ℤ scaledCosine 1 +ℤ scaledCosine degree *ℤ scaledSine 1)

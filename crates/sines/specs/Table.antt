@@ -1,4 +1,4 @@
--- The sines of the whole degrees 0 to 359, each the nearest f32, zeros positive: their bit patterns. Data only, made by tools/sines.py. Assumes nothing.
+-- The bit patterns of the sines of 0 to 359 degrees, rounded to f32, with no zero negative. Data only, made by tools/sines.py. Assumes nothing.
 use Prim.Native.Nat.{ℕ}
 use mathlib.Core.List.{List, [], _∷_}
 

@@ -3,7 +3,7 @@
 ghost use mathlib.Core.Path.{_≡_};
 ghost use Rattle.sines.specs.Sines.{sines, sineOf, cosineOf};
 
-// Each the nearest f32, zeros positive (tools/sines.py).
+// Rounded to f32, with no zero negative (tools/sines.py).
 const SINES: [f32; 360] = [
     0.0,
     0.017452406,

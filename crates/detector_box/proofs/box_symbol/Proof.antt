@@ -12,14 +12,14 @@ use Rattle.detector_boundary.specs.Boundary.{plainBoundary}
 use Rattle.detector_boundary.specs.Within.{Placed, plain-placed}
 use Rattle.detector_turn.specs.declared.Turn.{Turn}
 use Rattle.detector_turn.specs.Outcomes.{classOf}
-use Rattle.detector_turn.specs.Scales.{Image, Inner, tryScales}
+use Rattle.detector_turn.specs.Scales.{ImageBounds, Inner, tryScales}
 use Rattle.detector_turn.specs.ScalesLaws.{pixel-of, ended}
 use Rattle.detector_box.specs.Boxes.{cornersOf, symbolAt}
 use borrow.Author.Needs.{needs}
 use Rattle.detector_box.proofs.box_symbol.Statement.{statement}
 use Rattle.detector_box.proofs.box_symbol.Tie as tie
 
-placed : {size rowWords width height : ℕ} (radius : ℕ) {p : PointU} {b : Boundary} → Image size rowWords width height → Inner width height p
+placed : {size rowWords width height : ℕ} (radius : ℕ) {p : PointU} {b : Boundary} → ImageBounds size rowWords width height → Inner width height p
     → 6 ≤ radius → radius < 2048 → b ≡ plainBoundary width height (p .x) (p .y) radius → Placed b
 placed radius image inner least most e = rw e (plain-placed (pixel-of image inner) least most)
 

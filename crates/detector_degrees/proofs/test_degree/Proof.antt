@@ -15,7 +15,7 @@ use Rattle.bit_matrix.specs.declared.Sample.{Sample}
 use Rattle.bit_matrix.specs.declared.Sample.the-variants as samples
 use Rattle.rxing_result_point.specs.declared.PointU.{PointU}
 use Rattle.detector_degrees.specs.Degrees.{pointOf, rightColour, lookAt, pointsFrom, testDegree}
-use Rattle.detector_degrees.specs.declared.Degree.the-variants.{Found, Not, Outside}
+use Rattle.detector_degrees.specs.declared.Degree.the-variants.{Found, WrongColour, Outside}
 use Rattle.detector_degrees.proofs.test_degree.Statement.{statement}
 use Rattle.detector_degrees.proofs.test_degree.Tie as tie
 
@@ -48,7 +48,7 @@ module _ {words marks₀ marks : List ℕ} {rowWords width height k : ℕ} {cent
     lost e = resumes-end (ran-done _) (resumes-step _ (rw e at ran) (rw left at (testing .resumes)))
 
     module _ {black right : Bool} (e : sample ≡ samples.Inside black) (colour : right ≡ rightColour k black) where
-      wrong : right ≡ false → Ran (testDegree rowWords (length words) width height center groups sin cos) words marks₀ Not after
+      wrong : right ≡ false → Ran (testDegree rowWords (length words) width height center groups sin cos) words marks₀ WrongColour after
       unfolding pointsFrom
       wrong f = resumes-end (ran-done _) (resumes-else _ _ (sym colour ∙ f) (resumes-step _ (rw e at ran) (rw left at (testing .resumes))))
 

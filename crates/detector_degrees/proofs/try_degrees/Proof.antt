@@ -13,7 +13,7 @@ use Rattle.sines.specs.Sines.{sineOf, cosineOf}
 use Rattle.rxing_result_point.specs.declared.PointU.{PointU}
 use Rattle.detector_degrees.specs.Degrees.{testDegree}
 use Rattle.detector_degrees.specs.declared.Degree.{Degree}
-use Rattle.detector_degrees.specs.declared.Degree.the-variants.{Found, Not, Outside}
+use Rattle.detector_degrees.specs.declared.Degree.the-variants.{Found, WrongColour, Outside}
 use Rattle.detector_degrees.specs.Degrees.{degreesFrom, tryDegrees}
 use Rattle.detector_degrees.specs.declared.Rotation.the-variants as rotation
 use Rattle.detector_degrees.proofs.try_degrees.Statement.{statement}
@@ -51,7 +51,7 @@ module _ {words marks₀ marks : List ℕ} {rowWords width height i : ℕ} {cent
     unfolding degreesFrom
     lost e = resumes-end (ran-done _) (resumes-step _ (rw (e, s, k) at ran) (rw left at (trying .resumes)))
 
-    onward : degree ≡ Not → length after ≡ length marks → Trying words marks₀ rowWords width height center groups after (i + 1)
+    onward : degree ≡ WrongColour → length after ≡ length marks → Trying words marks₀ rowWords width height center groups after (i + 1)
     unfolding degreesFrom
     onward e kept = record {
       sized = kept ∙ trying .sized;

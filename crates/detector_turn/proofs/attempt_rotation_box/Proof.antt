@@ -13,13 +13,13 @@ use Rattle.detector_boundary.specs.Within.{Placed, scaled-placed}
 use Rattle.detector_points.specs.Orientation.{orientationPoints}
 use Rattle.detector_degrees.specs.declared.Rotation.{Rotation}
 use Rattle.detector_degrees.specs.Degrees.{tryDegrees}
-use Rattle.detector_turn.specs.Scales.{Image, Inner, attemptRotationBox}
+use Rattle.detector_turn.specs.Scales.{ImageBounds, Inner, attemptRotationBox}
 use Rattle.detector_turn.specs.ScalesLaws.{pixel-of}
 use borrow.Author.Needs.{needs}
 use Rattle.detector_turn.proofs.attempt_rotation_box.Statement.{statement}
 use Rattle.detector_turn.proofs.attempt_rotation_box.Tie as tie
 
-placed : {size rowWords width height radius : ℕ} {p : PointU} (scale : Float) {b : Boundary} → Image size rowWords width height → Inner width height p
+placed : {size rowWords width height radius : ℕ} {p : PointU} (scale : Float) {b : Boundary} → ImageBounds size rowWords width height → Inner width height p
     → 6 ≤ radius → radius < 2048 → T (isScale scale) → b ≡ scaledBoundary width height (p .x) (p .y) radius scale → Placed b
 placed scale image inner least most t e = rw e (scaled-placed scale (pixel-of image inner) least most t)
 

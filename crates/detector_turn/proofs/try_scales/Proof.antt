@@ -16,12 +16,12 @@ use Rattle.detector_center.specs.Center.{corrected}
 use Rattle.detector_degrees.specs.declared.Rotation.{Rotation}
 use Rattle.detector_degrees.specs.declared.Rotation.the-variants.{Found, None}
 use Rattle.detector_turn.specs.declared.Turn.{Turn}
-use Rattle.detector_turn.specs.Scales.{Image, Inner, acceptedScale, turnedBy, notTurned, lostAt, isOutside, attemptRotationBox, scalesFrom, tryScales}
+use Rattle.detector_turn.specs.Scales.{ImageBounds, Inner, acceptedScale, turnedBy, notTurned, lostAt, isOutside, attemptRotationBox, scalesFrom, tryScales}
 use Rattle.detector_turn.specs.ScalesLaws.{inner-of, accepted}
 use Rattle.detector_turn.proofs.try_scales.Statement.{statement}
 use Rattle.detector_turn.proofs.try_scales.Tie as tie
 
-within : {size rowWords width height : ℕ} {p : PointU} → Image size rowWords width height → Inner width height p → CenterWithin size rowWords p
+within : {size rowWords width height : ℕ} {p : PointU} → ImageBounds size rowWords width height → Inner width height p → CenterWithin size rowWords p
 within image inner = record { narrow = image .row; fit = image .fit; left = omega (arith, image, inner); low = omega (arith, image, inner) }
 
 record Trying (words marks₀ : List ℕ) (rowWords width height radius : ℕ) (start : PointU) (marks : List ℕ) (center : PointU) (scale : ℕ) : Type 0 where
