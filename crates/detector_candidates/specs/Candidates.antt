@@ -1,7 +1,7 @@
 -- `find_concentric_circles` of detector.rs as a reading program (document 01, "Candidates"). `rowWords` and `size` are the image's: words in a row, and in
--- all. Definitions only. Assumes nothing.
+-- all; `valid` is the test of the widths, the whole-number one or the source's in f32 (detector_widths/specs/Widths.antt). Definitions only. Assumes nothing.
 use Prim.Native.Nat.{ℕ, zero, suc, _+_, _-_, _*_, _/_, _≤_, min}
-use mathlib.Core.Bool.{true, false, cond, _||_}
+use mathlib.Core.Bool.{Bool, true, false, cond, _||_}
 use mathlib.Core.Path.{_≡_}
 use mathlib.Core.List.{List, [], _∷_, _++_}
 use lib.Dec.{eqb, ltb}
@@ -9,9 +9,10 @@ use lib.ListN.{length, take, replicate}
 use Rattle.reads.specs.Reads.{Reads, done, _>>=_}
 use Rattle.reads.specs.Runs.{valueOf, marksOf}
 use Rattle.records.specs.Records.{Record, Became}
-use Rattle.detector_rows.specs.Rows.{nextBullseye}
+use Rattle.detector_widths.specs.Widths.{validWidths}
+use Rattle.detector_rows.specs.Rows.{nextBullseyeBy}
 use Rattle.detector_rows.specs.declared.Bullseye.{Bullseye}
-use Rattle.detector_columns.specs.Columns.{verifyBullseyeVertical}
+use Rattle.detector_columns.specs.Columns.{verifyBullseyeVerticalBy}
 use Rattle.detector_candidates.specs.declared.Searched.{Searched}
 
 -- ---- one search of a row, from a column on
@@ -39,38 +40,51 @@ failed column eye =
 abbrev pub after : List Record → Searched → List Record
 after circles s = cond (s .passed) (circles ++ s .candidate ∷ []) circles
 
-module _ (rowWords size width height : ℕ) where
-  unfoldable pub searchFrom : ℕ → ℕ → Reads Searched
-  searchFrom row column = do
-    eye ← nextBullseye rowWords size width row column
+module _ (valid : List ℕ → Bool) (rowWords size width height : ℕ) where
+  unfoldable pub searchBy : ℕ → ℕ → Reads Searched
+  searchBy row column = do
+    eye ← nextBullseyeBy valid rowWords size width row column
     cond (eye .found)
         (do
-          seen ← verifyBullseyeVertical rowWords size height row (eye .center)
+          seen ← verifyBullseyeVerticalBy valid rowWords size height row (eye .center)
           cond (seen .good) (done (passed row eye (seen .buckets))) (done (failed column eye)))
         (done (nothing column))
 
   -- ---- the sweep, over at most `capacity` candidates and the one after them, which ends it
   module _ (capacity : ℕ) where
     -- The row from a column on, `circles` being the candidates so far. Each search starts further to the right, so that the width is enough fuel.
-    unfoldable pub rowFrom : ℕ → ℕ → ℕ → List Record → Reads (List Record)
-    rowFrom zero row column circles = done circles
-    rowFrom (suc n) row column circles = do
-      s ← searchFrom row column
+    unfoldable pub rowBy : ℕ → ℕ → ℕ → List Record → Reads (List Record)
+    rowBy zero row column circles = done circles
+    rowBy (suc n) row column circles = do
+      s ← searchBy row column
       let now = after circles s
-      cond (s .ended || ltb capacity (length now)) (done now) (rowFrom n row (s .column) now)
+      cond (s .ended || ltb capacity (length now)) (done now) (rowBy n row (s .column) now)
 
     -- every second row, below the height less six; the height is more than enough fuel
-    unfoldable pub rowsFrom : ℕ → ℕ → List Record → Reads (List Record)
-    rowsFrom zero row circles = done circles
-    rowsFrom (suc n) row circles =
+    unfoldable pub rowsBy : ℕ → ℕ → List Record → Reads (List Record)
+    rowsBy zero row circles = done circles
+    rowsBy (suc n) row circles =
         cond (ltb row (height - 6))
         (do
-          now ← rowFrom width row 6 circles
-          cond (ltb capacity (length now)) (done now) (rowsFrom n (row + 2) now))
+          now ← rowBy width row 6 circles
+          cond (ltb capacity (length now)) (done now) (rowsBy n (row + 2) now))
         (done circles)
 
-    unfoldable pub concentricCircles : Reads (List Record)
-    concentricCircles = rowsFrom height 6 []
+    unfoldable pub concentricCirclesBy : Reads (List Record)
+    concentricCirclesBy = rowsBy height 6 []
+
+-- ---- with the test in whole numbers; with the source's in f32 results and reads are the same: `same-sweep-f32`, CandidatesLaws.antt
+abbrev pub searchFrom : ℕ → ℕ → ℕ → ℕ → ℕ → ℕ → Reads Searched
+searchFrom = searchBy validWidths
+
+abbrev pub rowFrom : ℕ → ℕ → ℕ → ℕ → ℕ → ℕ → ℕ → ℕ → List Record → Reads (List Record)
+rowFrom = rowBy validWidths
+
+abbrev pub rowsFrom : ℕ → ℕ → ℕ → ℕ → ℕ → ℕ → ℕ → List Record → Reads (List Record)
+rowsFrom = rowsBy validWidths
+
+abbrev pub concentricCircles : ℕ → ℕ → ℕ → ℕ → ℕ → Reads (List Record)
+concentricCircles = concentricCirclesBy validWidths
 
 -- ---- the buffer
 

@@ -1,23 +1,36 @@
--- What holds of the sweep on every image: a search that does not end its row starts the next one further to the right, and each candidate is fit for the
--- steps after the sweep. Assumes nothing.
-use Prim.Native.Nat.{ℕ, zero, suc, _+_, _-_, _*_, _/_, _≤_, _<_}
+-- What holds of the sweep on every image: a search that does not end its row starts the next one further to the right, each candidate is fit for the
+-- steps after the sweep, and the sweep with the source's test of the widths is the same. Assumes nothing.
+use Prim.Native.Nat.{ℕ, zero, suc, _+_, _-_, _/_, _≤_, _<_}
 use native.Mathlib.Omega.{arith}
-use mathlib.Core.Path.{_≡_, refl, sym, ap, _∙_}
+use mathlib.Core.Path.{_≡_, refl}
 use mathlib.Core.Bool.{Bool, true, false, cond, _||_, true≢false, false≢true}
 use mathlib.Core.List.{List, [], _∷_, _++_}
 use borrow.Author.Tests.{eqb-false, ltb-true, ltb-false}
-use lib.Dec.{eqb, ltb}
+use lib.Dec.{ltb}
 use lib.ListN.{length, getD, replicate, length-append, length-replicate}
-use Rattle.reads.specs.Reads.{Reads, done, Always}
+use Rattle.reads.specs.Reads.{Reads, done, Always, Same}
 use Rattle.reads.specs.BitsLaws.{getD-zeros}
-use Rattle.reads.specs.ReadsLaws.{always-done, always-bind, always-after, always-cond}
+use Rattle.reads.specs.ReadsLaws.{always-done, always-bind, always-after, always-cond, same-refl, same-after, same-cond}
 use Rattle.records.specs.Records.{Record, Each}
-use Rattle.detector_rows.specs.RowsLaws.{Closed, always-closed}
+use Rattle.detector_widths.specs.Widths.{validWidthsF32}
+use Rattle.detector_rows.specs.RowsLaws.{Closed, always-closed, same-rows-f32}
 use Rattle.detector_rows.specs.declared.Bullseye.{Bullseye}
-use Rattle.detector_columns.specs.ColumnsLaws.{Bounded, verified-bounded}
-use Rattle.detector_columns.specs.Columns.{verifyBullseyeVertical}
-use Rattle.detector_columns.specs.declared.Verified.{Verified}
-use Rattle.detector_candidates.specs.Candidates.{candidateOf, nothing, passed, failed, searchFrom, after, rowFrom, rowsFrom, concentricCircles}
+use Rattle.detector_columns.specs.ColumnsLaws.{Bounded, verified-bounded, same-vertical-f32}
+use Rattle.detector_candidates.specs.Candidates.{
+  candidateOf,
+  nothing,
+  passed,
+  failed,
+  after,
+  searchBy,
+  searchFrom,
+  rowBy,
+  rowFrom,
+  rowsBy,
+  rowsFrom,
+  concentricCirclesBy,
+  concentricCircles,
+}
 use Rattle.detector_candidates.specs.declared.Searched.{Searched}
 
 -- ---- a search goes on to the right
@@ -138,7 +151,7 @@ pub record FitSearch (width height column : ℕ) (s : Searched) : Type 0 where
 
 pub search-fit : (rowWords size width height row column : ℕ) → Searchable width height row column
     → Always (FitSearch width height column) (searchFrom rowWords size width height row column)
-unfolding searchFrom passed failed nothing
+unfolding searchBy passed failed nothing
 search-fit rowWords size width height row column at =
     always-bind _ (always-closed rowWords size width row column) λ eye closed.
     always-cond (eye .found)
@@ -166,7 +179,7 @@ after-more circles s = go (s .passed)
 
 pub row-more : (rowWords size width height capacity n row column : ℕ) (circles : List Record)
     → Always (λ (now : List Record). length circles ≤ length now) (rowFrom rowWords size width height capacity n row column circles)
-unfolding rowFrom
+unfolding rowBy
 row-more rowWords size width height capacity zero row column circles = always-done (omega arith)
 row-more rowWords size width height capacity (suc n) row column circles =
     always-after (searchFrom rowWords size width height row column) _ λ s.
@@ -201,7 +214,7 @@ module _ (rowWords size width height capacity : ℕ) where
 
   row-fit : (n row column : ℕ) (circles : List Record) → Searchable width height row column → Each (Fit width height) circles → length circles ≤ capacity
       → Always Candidates (rowFrom rowWords size width height capacity n row column circles)
-  unfolding rowFrom
+  unfolding rowBy
   row-fit zero row column circles at each few = always-done (each, omega arith)
   row-fit (suc n) row column circles at each few =
       always-bind _ (search-fit rowWords size width height row column at) λ s fits.
@@ -210,7 +223,7 @@ module _ (rowWords size width height capacity : ℕ) where
 
   rows-fit : (n row : ℕ) (circles : List Record) → width ≤ 2048 → height ≤ 2048 → 12 < width → Each (Fit width height) circles → length circles ≤ capacity
       → Always Candidates (rowsFrom rowWords size width height capacity n row circles)
-  unfolding rowsFrom
+  unfolding rowsBy
   rows-fit zero row circles narrow low wide each few = always-done (each, omega arith)
   rows-fit (suc n) row circles narrow low wide each few =
       always-cond (ltb row (height - 6))
@@ -224,5 +237,41 @@ module _ (rowWords size width height capacity : ℕ) where
       (λ _. always-done (each, omega arith))
 
   pub circles-fit : width ≤ 2048 → height ≤ 2048 → 12 < width → Always Candidates (concentricCircles rowWords size width height capacity)
-  unfolding concentricCircles Each
+  unfolding concentricCirclesBy Each
   circles-fit narrow low wide = rows-fit height 6 [] narrow low wide tt (omega arith)
+
+-- ---- with the source's test of the widths
+
+module _ (rowWords size : ℕ) {width height : ℕ} (narrow : width ≤ 2048) (low : height ≤ 2048) where
+  same-search : (row column : ℕ) → Same (searchBy validWidthsF32 rowWords size width height row column) (searchFrom rowWords size width height row column)
+  unfolding searchBy
+  same-search row column =
+      same-after _ _ (same-rows-f32 rowWords size width row column (omega arith)) λ eye.
+      same-cond (eye .found)
+      (λ _. same-after _ _ (same-vertical-f32 rowWords size height row low (eye .center)) λ seen. same-refl)
+      (λ _. same-refl)
+
+  module _ (capacity : ℕ) where
+    same-row : (n row column : ℕ) (circles : List Record)
+        → Same (rowBy validWidthsF32 rowWords size width height capacity n row column circles) (rowFrom rowWords size width height capacity n row column circles)
+    unfolding rowBy
+    same-row zero row column circles = same-refl
+    same-row (suc n) row column circles =
+        same-after _ _ (same-search row column) λ s.
+        same-cond (s .ended || ltb capacity (length (after circles s))) (λ _. same-refl) λ _. same-row n row (s .column) (after circles s)
+
+    same-rows : (n row : ℕ) (circles : List Record)
+        → Same (rowsBy validWidthsF32 rowWords size width height capacity n row circles) (rowsFrom rowWords size width height capacity n row circles)
+    unfolding rowsBy
+    same-rows zero row circles = same-refl
+    same-rows (suc n) row circles =
+        same-cond (ltb row (height - 6))
+        (λ _.
+        same-after _ _ (same-row width row 6 circles) λ now.
+        same-cond (ltb capacity (length now)) (λ _. same-refl) λ _. same-rows n (row + 2) now)
+        (λ _. same-refl)
+
+    -- The sweep with the source's f32 test has the candidates and the reads of the sweep with the whole-number one.
+    pub same-sweep-f32 : Same (concentricCirclesBy validWidthsF32 rowWords size width height capacity) (concentricCircles rowWords size width height capacity)
+    unfolding concentricCirclesBy
+    same-sweep-f32 = same-rows height 6 []

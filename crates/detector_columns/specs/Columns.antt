@@ -1,5 +1,5 @@
--- The vertical check of detector.rs (document 01, "Candidates"), as reading programs. `rowWords` and `size` are the image's words in a row and in all.
--- Definitions only. Assumes nothing.
+-- The vertical check of detector.rs (document 01, "Candidates"), as reading programs. `rowWords` and `size` are the image's words in a row and in all;
+-- `valid` is the test of the widths, the whole-number one or the source's in f32 (detector_widths/specs/Widths.antt). Definitions only. Assumes nothing.
 use Prim.Native.Nat.{ℕ, zero, suc, _+_, _-_}
 use mathlib.Core.Bool.{Bool, true, false, cond, Bool·beq}
 use mathlib.Core.List.{List, [], _∷_}
@@ -53,16 +53,24 @@ module _ (rowWords size height row : ℕ) where
     down ← columnVector rowWords size height column row false
     done (potentialBullseyeArray down up)
 
+module _ (valid : List ℕ → Bool) (rowWords size height row : ℕ) where
   -- the check of one column
-  unfoldable pub tryColumn : ℕ → Reads Verified
-  tryColumn column = do
-    buckets ← potentialBullseye column
-    done (record { good = validWidths buckets; buckets = buckets })
+  unfoldable pub tryColumnBy : ℕ → Reads Verified
+  tryColumnBy column = do
+    buckets ← potentialBullseye rowWords size height row column
+    done (record { good = valid buckets; buckets = buckets })
 
   -- a column, then the next, then the one before, until one passes
-  unfoldable pub verifyBullseyeVertical : ℕ → Reads Verified
-  verifyBullseyeVertical column = do
-    here ← tryColumn column
+  unfoldable pub verifyBullseyeVerticalBy : ℕ → Reads Verified
+  verifyBullseyeVerticalBy column = do
+    here ← tryColumnBy column
     cond (here .good) (done here) (do
-      right ← tryColumn (column + 1)
-      cond (right .good) (done right) (tryColumn (column - 1)))
+      right ← tryColumnBy (column + 1)
+      cond (right .good) (done right) (tryColumnBy (column - 1)))
+
+-- ---- with the test in whole numbers; with the source's in f32 results and reads are the same: `same-vertical-f32`, ColumnsLaws.antt
+abbrev pub tryColumn : ℕ → ℕ → ℕ → ℕ → ℕ → Reads Verified
+tryColumn = tryColumnBy validWidths
+
+abbrev pub verifyBullseyeVertical : ℕ → ℕ → ℕ → ℕ → ℕ → Reads Verified
+verifyBullseyeVertical = verifyBullseyeVerticalBy validWidths

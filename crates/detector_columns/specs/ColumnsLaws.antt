@@ -1,17 +1,17 @@
--- What holds of the vertical check on every image: no run is longer than the rows, so no sum overflows and the test of the widths is the source's.
--- Assumes nothing.
+-- What holds of the vertical check on every image: no run is longer than the rows, so no sum overflows, and the check with the source's test of the
+-- widths is the same. Assumes nothing.
 use Prim.Native.Nat.{ℕ, zero, suc, _+_, _-_, _*_, _≤_, _<_}
 use native.Mathlib.Decide.{decLt, ℕ-discrete}
 use native.Mathlib.Omega.{arith}
-use mathlib.Core.Path.{_≡_, refl, sym}
+use mathlib.Core.Path.{_≡_, refl}
 use mathlib.Core.Bool.{Bool, true, false, cond}
 use mathlib.Core.List.{List, [], _∷_}
 use borrow.Author.Tests.{lt-ltb, le-ltb}
 use lib.Dec.{ltb}
 use lib.ListN.{length, set, replicate}
 use lib.Seq.{getD-set-same, getD-set-other, set-out}
-use Rattle.reads.specs.Reads.{Always}
-use Rattle.reads.specs.ReadsLaws.{always-done, always-bind, always-after, always-cond}
+use Rattle.reads.specs.Reads.{Always, Same}
+use Rattle.reads.specs.ReadsLaws.{always-done, always-bind, always-after, always-cond, same-refl, same-bind, same-after, same-cond}
 use Rattle.reads.specs.BitsLaws.{getD-zeros}
 use Rattle.bit_matrix.specs.Pixels.{pixel}
 use Rattle.detector_widths.specs.Buckets.{bump}
@@ -24,7 +24,9 @@ use Rattle.detector_columns.specs.Columns.{
   columnVector,
   potentialBullseyeArray,
   potentialBullseye,
+  tryColumnBy,
   tryColumn,
+  verifyBullseyeVerticalBy,
   verifyBullseyeVertical,
 }
 use Rattle.detector_columns.specs.declared.Verified.{Verified}
@@ -110,6 +112,10 @@ array-bounded {height} {v} {w} down up =
       odds = omega (arith, down .run 4, down .run 2, up .run 2, up .run 4);
     }
 
+-- the test of a column's runs is the source's in f32
+bounded-widths : {height : ℕ} {buckets : List ℕ} → height ≤ 2048 → Bounded height buckets → validWidthsF32 buckets ≡ validWidths buckets
+bounded-widths {buckets = buckets} low bounded = same-widths buckets (omega (arith, bounded .evens)) (omega (arith, bounded .odds))
+
 module _ (rowWords size height row : ℕ) where
   pub potential-bounded : (column : ℕ) → Always (Bounded height) (potentialBullseye rowWords size height row column)
   unfolding potentialBullseye
@@ -118,38 +124,32 @@ module _ (rowWords size height row : ℕ) where
       always-bind _ (column-vector-le rowWords size height column row false) λ down down-le.
       always-done (array-bounded down-le up-le)
 
-  -- the test made of a column's runs is the source's, in f32
-  pub same-test-f32 : height ≤ 2048 → (column : ℕ)
-      → Always (λ (buckets : List ℕ). validWidthsF32 buckets ≡ validWidths buckets) (potentialBullseye rowWords size height row column)
-  same-test-f32 low column = record {
-    on = λ image.
-        let bounded = potential-bounded column .on image in
-        same-widths _ (omega (arith, bounded .evens)) (omega (arith, bounded .odds));
-  }
-
-  -- what holds of every column's check holds of the answer
-  always-verified : {P : Verified → Type 0} → ((column : ℕ) → Always P (tryColumn rowWords size height row column))
-      → (column : ℕ) → Always P (verifyBullseyeVertical rowWords size height row column)
-  unfolding verifyBullseyeVertical
-  always-verified {P} tried column =
-      always-bind _ (tried column) λ here here-holds.
-      always-cond (here .good) (λ _. always-done here-holds) λ _.
-      always-bind _ (tried _) λ right right-holds.
-      always-cond (right .good) (λ _. always-done right-holds) λ _. tried _
-
   try-bounded : (column : ℕ) → Always (λ (verified : Verified). Bounded height (verified .buckets)) (tryColumn rowWords size height row column)
-  unfolding tryColumn
+  unfolding tryColumnBy
   try-bounded column = always-bind _ (potential-bounded column) λ buckets bounded. always-done bounded
 
   pub verified-bounded : (column : ℕ)
       → Always (λ (verified : Verified). Bounded height (verified .buckets)) (verifyBullseyeVertical rowWords size height row column)
-  verified-bounded = always-verified try-bounded
+  unfolding verifyBullseyeVerticalBy
+  verified-bounded column =
+      always-bind _ (try-bounded column) λ here here-bounded.
+      always-cond (here .good) (λ _. always-done here-bounded) λ _.
+      always-bind _ (try-bounded _) λ right right-bounded.
+      always-cond (right .good) (λ _. always-done right-bounded) λ _. try-bounded _
 
-  try-f32 : height ≤ 2048 → (column : ℕ)
-      → Always (λ (verified : Verified). verified .good ≡ validWidthsF32 (verified .buckets)) (tryColumn rowWords size height row column)
-  unfolding tryColumn
-  try-f32 low column = always-bind _ (same-test-f32 low column) λ buckets same. always-done (sym same)
+  -- ---- with the source's test of the widths
 
-  pub verified-f32 : height ≤ 2048 → (column : ℕ)
-      → Always (λ (verified : Verified). verified .good ≡ validWidthsF32 (verified .buckets)) (verifyBullseyeVertical rowWords size height row column)
-  verified-f32 low = always-verified (try-f32 low)
+  same-try : height ≤ 2048 → (column : ℕ) → Same (tryColumnBy validWidthsF32 rowWords size height row column) (tryColumn rowWords size height row column)
+  unfolding tryColumnBy
+  same-try low column =
+      same-bind _ _ same-refl (potential-bounded column) λ buckets bounded. rw (bounded-widths low bounded) same-refl
+
+  -- The check with the source's f32 test has the results and the reads of the check with the whole-number one.
+  pub same-vertical-f32 : height ≤ 2048 → (column : ℕ)
+      → Same (verifyBullseyeVerticalBy validWidthsF32 rowWords size height row column) (verifyBullseyeVertical rowWords size height row column)
+  unfolding verifyBullseyeVerticalBy
+  same-vertical-f32 low column =
+      same-after _ _ (same-try low column) λ here.
+      same-cond (here .good) (λ _. same-refl) λ _.
+      same-after _ _ (same-try low _) λ right.
+      same-cond (right .good) (λ _. same-refl) λ _. same-try low _

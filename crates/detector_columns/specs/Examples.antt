@@ -9,7 +9,7 @@ use Rattle.reads.specs.Runs.{valueOf}
 use Rattle.bit_matrix.specs.Pixels.{pixel}
 use Rattle.detector_widths.specs.Widths.{evenRunsPass, oddRunsPass, validWidths}
 use Rattle.detector_widths.specs.Buckets.{bump}
-use Rattle.detector_columns.specs.Columns.{rowsLeft, vectorFrom, columnVector, potentialBullseye, tryColumn, verifyBullseyeVertical}
+use Rattle.detector_columns.specs.Columns.{rowsLeft, vectorFrom, columnVector, potentialBullseye, tryColumnBy, verifyBullseyeVerticalBy, verifyBullseyeVertical}
 use Rattle.detector_columns.specs.declared.Verified.{Verified}
 
 -- twelve rows, black at column 1 in each second row
@@ -25,17 +25,17 @@ blackCentre = record { good = true; buckets = 1 ∷ 1 ∷ 1 ∷ 1 ∷ 1 ∷ 0 �
 
 pub black-centre : valueOf (verifyAt 1) stripes ≡ blackCentre
 unfolding valueOf value _>>=_ testBit bitAt pixel evenRunsPass oddRunsPass validWidths
-    bump rowsLeft vectorFrom columnVector potentialBullseye tryColumn verifyBullseyeVertical
+    bump rowsLeft vectorFrom columnVector potentialBullseye tryColumnBy verifyBullseyeVerticalBy
 black-centre = refl
 
 -- up and then down: rows 11 and 1, which open the seventh runs, are read; row 0 is not
 pub seventh-run-read : trace (verifyAt 1) (bitAt stripes) ≡ 385 ∷ 449 ∷ 513 ∷ 577 ∷ 641 ∷ 705 ∷ 385 ∷ 321 ∷ 257 ∷ 193 ∷ 129 ∷ 65 ∷ []
 unfolding value trace _>>=_ testBit bitAt pixel evenRunsPass oddRunsPass validWidths
-    bump rowsLeft vectorFrom columnVector potentialBullseye tryColumn verifyBullseyeVertical
+    bump rowsLeft vectorFrom columnVector potentialBullseye tryColumnBy verifyBullseyeVerticalBy
 seventh-run-read = refl
 
 -- from the column after it and the one before it the same is found
 pub nudged : (valueOf (verifyAt 2) stripes ≡ blackCentre) × (valueOf (verifyAt 0) stripes ≡ blackCentre)
 unfolding valueOf value _>>=_ testBit bitAt pixel evenRunsPass oddRunsPass validWidths
-    bump rowsLeft vectorFrom columnVector potentialBullseye tryColumn verifyBullseyeVertical
+    bump rowsLeft vectorFrom columnVector potentialBullseye tryColumnBy verifyBullseyeVerticalBy
 nudged = (refl, refl)

@@ -17,7 +17,7 @@ use Rattle.bit_matrix.specs.PixelsLaws.{ran-pixel}
 use Rattle.bit_runs.specs.BitRuns.{rowBit}
 use Rattle.detector_widths.specs.Buckets.{bump}
 use Rattle.detector_widths.specs.Widths.{validWidths}
-use Rattle.detector_rows.specs.Rows.{metadata, withoutFirst, windowFrom}
+use Rattle.detector_rows.specs.Rows.{metadata, withoutFirst, windowBy, windowFrom}
 use Rattle.detector_rows.specs.RowsLaws.{Counted, counted-same, counted-next, counted-without}
 use Rattle.detector_rows.specs.Ring.{bucketsOf, colour, closing}
 use Rattle.detector_rows.specs.declared.Bullseye.{Bullseye}
@@ -75,7 +75,7 @@ module _ (words : List ℕ) (rowWords row limit : ℕ) where
       onward : (i : ℕ) (m : List ℕ) → i < e - x → length m ≡ length words
           → Resumes words (sweepAt ring k (x + i)) m whole before
           → Resumes words (sweepAt ring k (x + (i + 1))) (mark m (row * rowWords * 64 + x + i)) whole before
-      unfolding windowFrom
+      unfolding windowBy
       onward i m h long rest =
           let some : limit - (x + i) ≡ suc (limit - (x + i + 1)) = omega arith in
           let next : x + i + 1 ≡ x + (i + 1) = omega arith in
@@ -107,7 +107,7 @@ module _ (words : List ℕ) (rowWords row limit : ℕ) where
           (cond (validWidths (bucketsOf ring k e) && not (not (colour k)))
           (done (metadata (bucketsOf ring k e) e))
           (next (not (colour k)) (min k 10) (withoutFirst (bucketsOf ring k e)))))
-      unfolding windowFrom
+      unfolding windowBy
       read-on =
           let some : limit - e ≡ suc (limit - (e + 1)) = omega arith in
           let apart : Bool·beq (rowBit words (row * rowWords) e) (colour k) ≡ false =

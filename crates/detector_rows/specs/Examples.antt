@@ -10,7 +10,7 @@ use Rattle.bit_matrix.specs.Pixels.{pixel}
 use Rattle.detector_widths.specs.Buckets.{bump}
 use Rattle.detector_widths.specs.Widths.{evenRunsPass, oddRunsPass, validWidths}
 use Rattle.reads.specs.Runs.{valueOf}
-use Rattle.detector_rows.specs.Rows.{total, metadata, none, skipWhite, windowFrom, nextBullseye}
+use Rattle.detector_rows.specs.Rows.{total, metadata, none, skipWhite, windowBy, nextBullseyeBy, nextBullseye}
 use Rattle.detector_rows.specs.declared.Bullseye.{Bullseye}
 
 -- 33 rows of one word, row 6 with six black pixels a column apart, the first at column 15 or 16
@@ -23,5 +23,5 @@ from16 = replicate 6 0 ++ 0x555_0000 ∷ replicate 26 0
 pub near-pair :
     (valueOf (nextBullseye 1 33 33 6 6) from15 ≡ record { found = true; center = 20; radius = 6; buckets = replicate 11 1 })
     × (valueOf (nextBullseye 1 33 33 6 6) from16 ≡ none)
-unfolding valueOf value _>>=_ testBit bitAt pixel bump validWidths evenRunsPass oddRunsPass total metadata skipWhite windowFrom nextBullseye
+unfolding valueOf value _>>=_ testBit bitAt pixel bump validWidths evenRunsPass oddRunsPass total metadata skipWhite windowBy nextBullseyeBy
 near-pair = (refl, refl)

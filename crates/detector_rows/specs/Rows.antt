@@ -1,5 +1,6 @@
 -- `find_next_bullseye_horizontal` and `get_bullseye_metadata` of detector.rs as reading programs, read pixel by pixel. `rowWords` and `size` are the image's:
--- words in a row, and in all. Definitions only. Assumes nothing.
+-- words in a row, and in all; `valid` is the test of the widths, the whole-number one or the source's in f32 (detector_widths/specs/Widths.antt).
+-- Definitions only. Assumes nothing.
 use Prim.Native.Nat.{ℕ, zero, suc, _+_, _-_, _/_}
 use mathlib.Core.Bool.{Bool, true, false, not, cond, _&&_, Bool·beq}
 use mathlib.Core.List.{List, [], _∷_, _++_}
@@ -40,22 +41,30 @@ module _ (rowWords size row : ℕ) where
     black ← pixel rowWords size column row
     cond black (done column) (skipWhite n (column + 1))
 
+module _ (valid : List ℕ → Bool) (rowWords size row : ℕ) where
   -- With n columns left, in run `pointer`, of colour `last` (true for black): a change of colour begins the next run, and after the eleventh it closes the window where the
   -- runs pass and the pixel is white, or drops the first run.
-  unfoldable pub windowFrom : ℕ → ℕ → Bool → ℕ → List ℕ → Reads Bullseye
-  windowFrom zero column last pointer buckets = done none
-  windowFrom (suc n) column last pointer buckets = do
+  unfoldable pub windowBy : ℕ → ℕ → Bool → ℕ → List ℕ → Reads Bullseye
+  windowBy zero column last pointer buckets = done none
+  windowBy (suc n) column last pointer buckets = do
     black ← pixel rowWords size column row
     cond (Bool·beq black last)
-        (windowFrom n (column + 1) last pointer (bump buckets pointer))
+        (windowBy n (column + 1) last pointer (bump buckets pointer))
         (cond (ltb pointer 10)
-        (windowFrom n (column + 1) black (pointer + 1) (bump buckets (pointer + 1)))
-        (cond (validWidths buckets && not black)
+        (windowBy n (column + 1) black (pointer + 1) (bump buckets (pointer + 1)))
+        (cond (valid buckets && not black)
         (done (metadata buckets column))
-        (windowFrom n (column + 1) black pointer (withoutFirst buckets))))
+        (windowBy n (column + 1) black pointer (withoutFirst buckets))))
 
 -- `find_next_bullseye_horizontal`: leading white is skipped, and then the runs are counted, in columns below the width less six
-unfoldable pub nextBullseye : ℕ → ℕ → ℕ → ℕ → ℕ → Reads Bullseye
-nextBullseye rowWords size width row start = do
+unfoldable pub nextBullseyeBy : (List ℕ → Bool) → ℕ → ℕ → ℕ → ℕ → ℕ → Reads Bullseye
+nextBullseyeBy valid rowWords size width row start = do
   first ← skipWhite rowWords size row (width - 6 - start) start
-  windowFrom rowWords size row (width - 6 - first) first true 0 (replicate 11 0)
+  windowBy valid rowWords size row (width - 6 - first) first true 0 (replicate 11 0)
+
+-- ---- with the test in whole numbers; with the source's in f32 results and reads are the same: `same-rows-f32`, RowsLaws.antt
+abbrev pub windowFrom : ℕ → ℕ → ℕ → ℕ → ℕ → Bool → ℕ → List ℕ → Reads Bullseye
+windowFrom = windowBy validWidths
+
+abbrev pub nextBullseye : ℕ → ℕ → ℕ → ℕ → ℕ → Reads Bullseye
+nextBullseye = nextBullseyeBy validWidths

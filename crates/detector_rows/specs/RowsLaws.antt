@@ -1,4 +1,4 @@
--- What holds of a window that the row search finds, on every image. Assumes nothing.
+-- What holds of a window that the row search finds, on every image, and that the search with the source's test of the widths is the same. Assumes nothing.
 use Prim.Native.Nat.{ℕ, zero, suc, _+_, _-_, _*_, _/_, _^_, _≤_, _<_}
 use native.Mathlib.Decide.{ℕ-discrete}
 use native.Mathlib.Omega.{arith}
@@ -10,12 +10,12 @@ use borrow.Author.Tests.{ltb-true, ltb-false}
 use lib.Dec.{ltb}
 use lib.ListN.{length, getD, drop, replicate, length-set, length-drop, length-append}
 use lib.Seq.{getD-set-same, getD-set-other, getD-drop}
-use Rattle.reads.specs.Reads.{Reads, Always}
-use Rattle.reads.specs.ReadsLaws.{always-done, always-bind, always-after, always-cond}
+use Rattle.reads.specs.Reads.{Reads, Always, Same}
+use Rattle.reads.specs.ReadsLaws.{always-done, always-bind, always-after, always-cond, same-refl, same-after, same-cond}
 use Rattle.detector_widths.specs.Buckets.{bump}
 use Rattle.detector_widths.specs.Widths.{evenTotal, oddTotal, evenRunsPass, validWidths, validWidthsF32}
 use Rattle.detector_widths.specs.SameWidths.{same-widths}
-use Rattle.detector_rows.specs.Rows.{total, metadata, withoutFirst, skipWhite, windowFrom, nextBullseye}
+use Rattle.detector_rows.specs.Rows.{total, metadata, withoutFirst, skipWhite, windowBy, windowFrom, nextBullseyeBy, nextBullseye}
 use Rattle.detector_rows.specs.declared.Bullseye.{Bullseye}
 
 -- ---- totals
@@ -103,7 +103,7 @@ module _ {start column pointer : ℕ} {buckets : List ℕ} (counted : Counted st
   same-length at = length-set buckets at _ ∙ counted .eleven
 
   -- whatever widths are tested, the test is the source's in f32
-  pub counted-widths : column ≤ 2 ^ 20 → validWidthsF32 buckets ≡ validWidths buckets
+  counted-widths : column ≤ 2 ^ 20 → validWidthsF32 buckets ≡ validWidths buckets
   counted-widths h =
       same-widths buckets (omega (arith, parts-total buckets, counted .sum)) (omega (arith, parts-total buckets, counted .sum))
 
@@ -198,7 +198,7 @@ module _ (rowWords size row : ℕ) where
   always-window : {start width : ℕ} (n column : ℕ) (last : Bool) (pointer : ℕ) (buckets : List ℕ)
       → n ≤ width - 6 - column → Counted start column pointer buckets
       → Always (Found start width) (windowFrom rowWords size row n column last pointer buckets)
-  unfolding windowFrom
+  unfolding windowBy
   always-window zero column last pointer buckets h counted = always-done (λ e. absurd (false≢true e))
   always-window {start} {width} (suc n) column last pointer buckets h counted =
       always-after _ _ λ black. always-cond (Bool·beq black last)
@@ -216,7 +216,33 @@ module _ (rowWords size row : ℕ) where
 
 -- Whatever the image, a window found is closed after the start and before the limit.
 pub always-closed : (rowWords size width row start : ℕ) → Always (Found start width) (nextBullseye rowWords size width row start)
-unfolding nextBullseye
+unfolding nextBullseyeBy
 always-closed rowWords size width row start =
     always-bind _ (always-skip rowWords size row (width - 6 - start) start)
     λ first after. always-window rowWords size row (width - 6 - first) first true 0 (replicate 11 0) (omega arith) (counted-none after)
+
+-- ---- with the source's test of the widths
+
+module _ (rowWords size row : ℕ) where
+  same-window : {start width : ℕ} (n column : ℕ) (last : Bool) (pointer : ℕ) (buckets : List ℕ)
+      → width ≤ 2 ^ 20 → n ≤ width - 6 - column → Counted start column pointer buckets
+      → Same (windowBy validWidthsF32 rowWords size row n column last pointer buckets) (windowFrom rowWords size row n column last pointer buckets)
+  unfolding windowBy
+  same-window zero column last pointer buckets narrow h counted = same-refl
+  same-window (suc n) column last pointer buckets narrow h counted =
+      same-after _ _ same-refl λ black. same-cond (Bool·beq black last)
+      (λ _. same-window n (column + 1) last pointer (bump buckets pointer) narrow (omega arith) (counted-same counted))
+      (λ _. same-cond (ltb pointer 10)
+      (λ early. same-window n (column + 1) black (pointer + 1) (bump buckets (pointer + 1)) narrow (omega arith) (counted-next counted (ltb-true pointer 10 early)))
+      (λ late. rw (counted-widths counted (omega arith))
+      (same-cond (validWidths buckets && not black)
+      (λ _. same-refl)
+      (λ _. same-window n (column + 1) black pointer (withoutFirst buckets) narrow (omega arith) (counted-without counted (ltb-false pointer 10 late))))))
+
+-- The search with the source's f32 test has the results and the reads of the search with the whole-number one.
+pub same-rows-f32 : (rowWords size width row start : ℕ) → width ≤ 2 ^ 20
+    → Same (nextBullseyeBy validWidthsF32 rowWords size width row start) (nextBullseye rowWords size width row start)
+unfolding nextBullseyeBy
+same-rows-f32 rowWords size width row start narrow =
+    same-after _ _ same-refl λ first.
+    same-window rowWords size row {start = first} (width - 6 - first) first true 0 (replicate 11 0) narrow (omega arith) (counted-none (omega arith))

@@ -1,9 +1,10 @@
--- The laws of sequence, one run on images that agree at the bits read, and how a fact that always holds is shown. Assumes nothing.
+-- The laws of sequence, one run on images that agree at the bits read, and how it is shown that a fact always holds and that two programs are the same on
+-- every image. Assumes nothing.
 use Prim.Native.Nat.{ℕ}
 use mathlib.Core.Bool.{Bool, true, false, cond}
-use mathlib.Core.Path.{_≡_, refl, ap, _∙_, fun-ext}
+use mathlib.Core.Path.{_≡_, refl, sym, ap, ap₂, _∙_, fun-ext}
 use mathlib.Core.List.{List, _∷_, _++_, List·Memᴰ, List·Memᴰ·head, List·Memᴰ·tail}
-use Rattle.reads.specs.Reads.{Reads, done, read, _>>=_, value, trace, Always}
+use Rattle.reads.specs.Reads.{Reads, done, read, _>>=_, value, trace, Always, Same}
 
 -- ---- sequence
 
@@ -59,3 +60,31 @@ module _ {A : Type 0} {P : A → Type 0} where
   pub always-cond : (t : Bool) {p q : Reads A} → (t ≡ true → Always P p) → (t ≡ false → Always P q) → Always P (cond t p q)
   always-cond true f g = f refl
   always-cond false f g = g refl
+
+-- ---- two programs that are the same on every image
+
+module _ {A : Type 0} where
+  pub same-refl : {p : Reads A} → Same p p
+  same-refl = record { values = λ image. refl; traces = λ image. refl }
+
+  -- after steps that are the same, of which Q always holds
+  pub same-bind : {B : Type 0} {Q : B → Type 0} {p q : Reads B} (k l : B → Reads A)
+      → Same p q → Always Q p → ((b : B) → Q b → Same (k b) (l b)) → Same (p >>= k) (q >>= l)
+  same-bind {p = p} {q} k l first always rest =
+      let next : (image : ℕ → Bool) → Same (k (value p image)) (l (value p image)) = λ image. rest (value p image) (always .on image) in
+      record {
+        values = λ image.
+            value-bind p k image ∙ next image .values image ∙ ap (λ b. value (l b) image) (first .values image) ∙ sym (value-bind q l image);
+        traces = λ image.
+            trace-bind p k image
+            ∙ ap₂ _++_ (first .traces image) (next image .traces image ∙ ap (λ b. trace (l b) image) (first .values image))
+            ∙ sym (trace-bind q l image);
+      }
+
+  -- after steps that are the same, of which nothing more is known
+  pub same-after : {B : Type 0} {p q : Reads B} (k l : B → Reads A) → Same p q → ((b : B) → Same (k b) (l b)) → Same (p >>= k) (q >>= l)
+  same-after k l first rest = same-bind {Q = λ _. Unit {0}} k l first (record { on = λ image. tt }) (λ b _. rest b)
+
+  pub same-cond : (t : Bool) {p q r s : Reads A} → (t ≡ true → Same p q) → (t ≡ false → Same r s) → Same (cond t p r) (cond t q s)
+  same-cond true f g = f refl
+  same-cond false f g = g refl

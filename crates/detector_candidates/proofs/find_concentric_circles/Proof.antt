@@ -14,7 +14,7 @@ use Rattle.reads.specs.Runs.{valueOf, Ran, Resumes}
 use Rattle.reads.specs.RunsLaws.{ran-done, always-ran, resumes-start, resumes-step, resumes-then, resumes-else, resumes-end}
 use Rattle.records.specs.Records.{Record, rows}
 use Rattle.records.specs.RecordsLaws.{length-rows}
-use Rattle.detector_candidates.specs.Candidates.{rowFrom, rowsFrom, concentricCircles, Room, Listed}
+use Rattle.detector_candidates.specs.Candidates.{rowFrom, rowsBy, rowsFrom, concentricCirclesBy, concentricCircles, Room, Listed}
 use Rattle.detector_candidates.specs.CandidatesLaws.{Searchable, row-more}
 use Rattle.detector_candidates.proofs.Storing.{stored-all, stored-rows, stored-rest, stored-since}
 use Rattle.detector_candidates.proofs.find_concentric_circles.Statement.{statement}
@@ -39,7 +39,7 @@ record Sweeping (words marks₀ circles₀ : List ℕ) (rowWords width height ca
 begins : {words marks circles : List ℕ} {rowWords width height capacity : ℕ} → length marks ≡ length words → rowWords < 2 ^ 32
     → 12 < width → width ≤ 2048 → 12 < height → height ≤ 2048 → Room capacity circles 0
     → Sweeping words marks circles rowWords width height capacity marks circles 0 6
-unfolding concentricCircles rows
+unfolding concentricCirclesBy rows
 begins {height = height} sized small wide narrow high low room = record {
   fuel = height;
   sized = sized;
@@ -65,7 +65,7 @@ module _ {words marks₀ circles₀ marks circles : List ℕ} {rowWords width he
 
   -- past the last row
   past : height - 6 ≤ row → Listed whole capacity words marks₀ circles₀ found marks circles
-  unfolding rowsFrom
+  unfolding rowsBy
   past h = listed (go (so-far .fuel) (so-far .resumes))
     where
       listed : Ran whole words marks₀ (rows found circles) marks → Listed whole capacity words marks₀ circles₀ found marks circles
@@ -104,7 +104,7 @@ module _ {words marks₀ circles₀ marks circles : List ℕ} {rowWords width he
       resumes : Resumes words (cond (ltb capacity (length now)) (done now) (rowsFrom rowWords (length words) width height capacity fuel (row + 2) now)) marks′ whole marks₀
 
     turned : Turned
-    unfolding rowsFrom
+    unfolding rowsBy
     turned = go (so-far .fuel) (so-far .fueled) (so-far .resumes)
       where
         go : (n : ℕ) → height - row ≤ n

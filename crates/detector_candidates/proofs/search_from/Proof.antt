@@ -14,7 +14,7 @@ use Rattle.detector_rows.specs.RowsLaws.{Closed, always-closed}
 use Rattle.detector_rows.specs.declared.Bullseye.{Bullseye}
 use Rattle.detector_columns.specs.Columns.{verifyBullseyeVertical}
 use Rattle.detector_columns.specs.declared.Verified.{Verified}
-use Rattle.detector_candidates.specs.Candidates.{nothing, passed, failed, searchFrom}
+use Rattle.detector_candidates.specs.Candidates.{nothing, passed, failed, searchBy, searchFrom}
 use Rattle.detector_candidates.specs.CandidatesLaws.{Searchable, radius-fits}
 use Rattle.detector_candidates.specs.declared.Searched.{Searched}
 use Rattle.detector_candidates.proofs.search_from.Statement.{statement}
@@ -23,7 +23,7 @@ use Rattle.detector_candidates.proofs.search_from.Tie as tie
 module _ {words marks m₁ : List ℕ} (rowWords width height row column : ℕ) {eye : Bullseye}
     (ran : Ran (nextBullseye rowWords (length words) width row column) words marks eye m₁) where
   ends : {s : Searched} → eye .found ≡ false → s ≡ nothing column → Ran (searchFrom rowWords (length words) width height row column) words marks s m₁
-  unfolding searchFrom
+  unfolding searchBy
   ends e made = ran-bind _ ran (ran-else _ _ e (ran-is made))
 
   module _ (at : Searchable width height row column) (found : eye .found ≡ true) where
@@ -46,12 +46,12 @@ module _ {words marks m₁ : List ℕ} (rowWords width height row column : ℕ) 
       (look : Ran (verifyBullseyeVertical rowWords (length words) height row (eye .center)) words m₁ seen m₂) where
     passes : {s : Searched} → seen .good ≡ true → s ≡ passed row eye (seen .buckets)
         → Ran (searchFrom rowWords (length words) width height row column) words marks s m₂
-    unfolding searchFrom
+    unfolding searchBy
     passes good made = ran-bind _ ran (ran-then _ _ found (ran-bind _ look (ran-then _ _ good (ran-is made))))
 
     fails : {s : Searched} → seen .good ≡ false → s ≡ failed column eye
         → Ran (searchFrom rowWords (length words) width height row column) words marks s m₂
-    unfolding searchFrom
+    unfolding searchBy
     fails bad made = ran-bind _ ran (ran-then _ _ found (ran-bind _ look (ran-else _ _ bad (ran-is made))))
 
 find-next-bullseye-horizontal-requires : tie.Need-find-next-bullseye-horizontal-requires

@@ -1,22 +1,22 @@
 -- `detector_candidates::sweep_row` meets its contract. The invariant is `Sweeping`: with some fuel, what is left of the row ends as the whole does, and only
 -- the candidates so far were written. That a turn moves to the right, and so has fuel, is a fact of the definition of a search. The measure is the columns
 -- left. Assumes nothing.
-use Prim.Native.Nat.{ℕ, zero, suc, _+_, _-_, _*_, _^_, _≤_, _<_, min}
-use mathlib.Core.Path.{_≡_, refl, sym, ap, _∙_}
+use Prim.Native.Nat.{ℕ, zero, suc, _-_, _*_, _^_, _≤_, _<_}
+use mathlib.Core.Path.{_≡_, refl, _∙_}
 use mathlib.Core.Bool.{Bool, true, false, cond, _||_}
-use mathlib.Core.List.{List, _∷_, [], _++_}
+use mathlib.Core.List.{List}
 use native.Mathlib.Omega.{arith}
 use borrow.Author.Needs.{needs}
-use borrow.Author.Tests.{ltb-true, ltb-false, lt-ltb, le-ltb}
+use borrow.Author.Tests.{lt-ltb, le-ltb}
 use lib.Dec.{ltb}
-use lib.ListN.{length, drop, length-append}
-use Rattle.reads.specs.Reads.{Reads, done, _>>=_}
+use lib.ListN.{length, drop}
+use Rattle.reads.specs.Reads.{Reads, done}
 use Rattle.reads.specs.Runs.{Ran, Resumes}
-use Rattle.reads.specs.RunsLaws.{ran-done, ran-length, always-ran, resumes-start, resumes-step, resumes-then, resumes-else, resumes-end}
+use Rattle.reads.specs.RunsLaws.{ran-done, always-ran, resumes-start, resumes-step, resumes-then, resumes-else, resumes-end}
 use Rattle.records.specs.Records.{Record, rows}
-use Rattle.records.specs.RecordsLaws.{length-rows, drop-later}
-use Rattle.detector_candidates.specs.Candidates.{searchFrom, after, rowFrom, Room, Stored, Listed}
-use Rattle.detector_candidates.specs.CandidatesLaws.{Searchable, Onward, FitSearch, search-fit, searchable-next, after-more}
+use Rattle.records.specs.RecordsLaws.{length-rows}
+use Rattle.detector_candidates.specs.Candidates.{searchFrom, after, rowBy, rowFrom, Room, Stored, Listed}
+use Rattle.detector_candidates.specs.CandidatesLaws.{Searchable, FitSearch, search-fit, searchable-next, after-more}
 use Rattle.detector_candidates.specs.declared.Searched.{Searched}
 use Rattle.detector_candidates.proofs.Storing.{stored-rows, stored-rest, stored-since}
 use Rattle.detector_candidates.proofs.sweep_row.Statement.{statement}
@@ -87,7 +87,7 @@ module _ {words marks₀ circles₀ marks circles : List ℕ} {rowWords width he
       resumes : Resumes words (left s fuel) marks′ whole marks₀
 
     turned : Turned
-    unfolding rowFrom
+    unfolding rowBy
     turned = go (so-far .fuel) (so-far .fueled) (so-far .resumes)
       where
         go : (n : ℕ) → width - column ≤ n

@@ -9,7 +9,7 @@ use borrow.Author.Needs.{needs}
 use Rattle.reads.specs.Runs.{Ran}
 use Rattle.reads.specs.RunsLaws.{ran-bind, ran-is, always-ran}
 use Rattle.detector_widths.specs.Widths.{at, validWidths}
-use Rattle.detector_columns.specs.Columns.{columnVector, potentialBullseyeArray, potentialBullseye, tryColumn}
+use Rattle.detector_columns.specs.Columns.{columnVector, potentialBullseyeArray, potentialBullseye, tryColumnBy, tryColumn}
 use Rattle.detector_columns.specs.ColumnsLaws.{column-vector-le}
 use Rattle.detector_columns.proofs.try_column.Statement.{statement}
 use Rattle.detector_columns.proofs.try_column.Tie as tie
@@ -26,7 +26,7 @@ tried : {words m₀ m₁ m₂ up down buckets : List ℕ} {good : Bool} (rowWord
     → Ran (columnVector rowWords size height column row false) words m₁ down m₂
     → buckets ≡ potentialBullseyeArray down up → good ≡ validWidths buckets
     → Ran (tryColumn rowWords size height row column) words m₀ (record { good = good; buckets = buckets }) m₂
-unfolding tryColumn potentialBullseye
+unfolding tryColumnBy potentialBullseye
 tried {buckets = buckets} rowWords size height row column above below same test =
     ran-bind _ (ran-bind _ above (ran-bind _ below (ran-is same))) (ran-is (ap (λ (b : Bool). record { good = b; buckets = buckets }) test))
 

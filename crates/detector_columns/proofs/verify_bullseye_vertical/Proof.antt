@@ -1,7 +1,7 @@
 -- `detector_columns::verify_bullseye_vertical` meets its contract: the calls' runs, by the tests on the way to each return. Assumes nothing.
 use borrow.Author.Needs.{needs}
 use Rattle.reads.specs.RunsLaws.{runs}
-use Rattle.detector_columns.specs.Columns.{verifyBullseyeVertical}
+use Rattle.detector_columns.specs.Columns.{verifyBullseyeVerticalBy}
 use Rattle.detector_columns.proofs.verify_bullseye_vertical.Statement.{statement}
 use Rattle.detector_columns.proofs.verify_bullseye_vertical.Tie as tie
 
@@ -12,7 +12,7 @@ same-length : tie.Need-same-length
 same-length c = search needs
 
 returns : tie.Need-returns
-unfolding verifyBullseyeVertical
+unfolding verifyBullseyeVerticalBy
 returns c = search runs depth 9
 
 add-try-column : tie.Need-add-try-column
@@ -25,7 +25,7 @@ same-length-2 : tie.Need-same-length-2
 same-length-2 c = search needs
 
 returns-2 : tie.Need-returns-2
-unfolding verifyBullseyeVertical
+unfolding verifyBullseyeVerticalBy
 returns-2 c = search runs depth 9
 
 sub-try-column : tie.Need-sub-try-column
@@ -38,7 +38,7 @@ same-length-3 : tie.Need-same-length-3
 same-length-3 c = search needs
 
 returns-3 : tie.Need-returns-3
-unfolding verifyBullseyeVertical
+unfolding verifyBullseyeVerticalBy
 returns-3 c = search runs depth 9
 
 pub verify-bullseye-vertical-spec : {M : Type 1} → statement M

@@ -11,7 +11,7 @@ use Rattle.reads.specs.Runs.{Ran}
 use Rattle.reads.specs.RunsLaws.{ran-bind}
 use Rattle.bit_runs.specs.BitRuns.{rowBit, FirstBlack}
 use Rattle.reads.specs.OrderLaws.{range-again}
-use Rattle.detector_rows.specs.Rows.{nextBullseye}
+use Rattle.detector_rows.specs.Rows.{nextBullseyeBy, nextBullseye}
 use Rattle.detector_rows.specs.Ring.{readTo, Swept}
 use Rattle.detector_rows.specs.declared.Bullseye.{Bullseye}
 use Rattle.detector_rows.proofs.SkipLaws.{ran-skip}
@@ -31,7 +31,7 @@ module _ (rowWords width row start : ℕ) (words m₀ : List ℕ) {m₁ : List �
       rw (white, here, range-again, all, marked)
 
   whole : Ran (nextBullseye rowWords (length words) width row start) words m₀ eye m₁
-  unfolding nextBullseye
+  unfolding nextBullseyeBy
   whole =
       let reach : max start (width - 6) ≡ start + (width - 6 - start) = omega arith in
       rw (← joined)

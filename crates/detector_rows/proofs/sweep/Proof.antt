@@ -17,7 +17,7 @@ use Rattle.reads.specs.Runs.{Resumes}
 use Rattle.reads.specs.RunsLaws.{ran-done, resumes-start, resumes-end}
 use Rattle.bit_runs.specs.BitRuns.{rowBit, Changes}
 use Rattle.bit_runs.specs.ChangesLaws.{changes-fewer, same-until, changes-at, changes-after}
-use Rattle.detector_rows.specs.Rows.{total, radiusOf, metadata, none, windowFrom}
+use Rattle.detector_rows.specs.Rows.{total, radiusOf, metadata, none, windowBy, windowFrom}
 use Rattle.detector_rows.specs.RowsLaws.{Counted, counted-none}
 use Rattle.detector_rows.specs.Ring.{bucketsOf, colour, closing, Swept}
 use Rattle.detector_rows.specs.declared.Bullseye.{Bullseye}
@@ -74,7 +74,7 @@ begins {rowWords = rowWords} {row} {from} {limit} {stop} low many narrow inside 
 -- nothing to look at
 nothing-left : {words : List ℕ} {rowWords row from limit : ℕ} {eye : Bullseye} → limit ≤ 2048 → limit ≤ from → eye ≡ none
     → Swept words rowWords row from limit eye
-unfolding windowFrom range markAll
+unfolding windowBy range markAll
 nothing-left {from = from} {limit} narrow past is =
     let no : limit - from ≡ 0 = omega arith in
     rw is (record { within = narrow; ran = λ m sized. rw no (ran-done _) })
@@ -101,7 +101,7 @@ module _ {words : List ℕ} {rowWords row from limit : ℕ} {ring : List ℕ} {k
 
   -- no change up to the limit
   at-limit : {eye : Bullseye} → stop ≤ column + n → limit ≤ stop → eye ≡ none → Swept words rowWords row from limit eye
-  unfolding windowFrom
+  unfolding windowBy
   at-limit clear past is =
       let all : stop ≡ limit = omega (arith, sweep .within) in
       let no : limit - limit ≡ 0 = omega arith in
