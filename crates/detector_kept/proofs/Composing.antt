@@ -56,6 +56,7 @@ module _ {found : ℕ} {l₀ : List ℕ} (held : Candidates found l₀) {s : Spr
       unfolding after
       composed sized₃ l₄ cleared = record {
         counted = counts;
+        few = retained .few;
         written =
             let end : 40 * kept + 40 * (capacity - kept) ≡ 40 * capacity = omega (arith, below) in
             let full : capacity ≡ capacityOf (length l₀) = is ∙ ap capacityOf sized in

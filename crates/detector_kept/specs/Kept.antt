@@ -33,6 +33,7 @@ after found words =
 
 pub record KeptAndRanked (found : ℕ) (before : List ℕ) (kept : ℕ) (words : List ℕ) : Type 0 where
   pub counted : kept ≡ length (ranked (rows found before))
+  pub few : kept ≤ found
   pub written : words ≡ after found before
   -- so the next step need not take `flat` apart
   pub records : rows kept words ≡ ranked (rows found before)
