@@ -1,4 +1,4 @@
-//! Proves the crate `timed`, with what it depends on, and links the archive that `rt staticlib` writes of it.
+//! Proves the crate `steps`, with what it depends on, and links the archive that `rt staticlib` writes of it.
 
 use std::path::Path;
 use std::process::Command;
@@ -9,17 +9,17 @@ fn main() {
         .parent()
         .expect("bench/ stands in the repository");
     let output = Command::new("rt")
-        .args(["staticlib", "timed"])
+        .args(["staticlib", "steps"])
         .current_dir(repository)
         .output()
         .expect("rt runs");
     let log = String::from_utf8_lossy(&output.stdout);
-    assert!(output.status.success(), "rt staticlib timed: {log}");
+    assert!(output.status.success(), "rt staticlib steps: {log}");
     println!(
         "cargo::rustc-link-search=native={}",
         repository.join("target/staticlib").display()
     );
-    println!("cargo::rustc-link-lib=static=timed");
+    println!("cargo::rustc-link-lib=static=steps");
     for input in ["crates", "crates.txt"] {
         println!(
             "cargo::rerun-if-changed={}",

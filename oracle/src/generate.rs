@@ -12,9 +12,9 @@ mod random;
 
 pub use coverage::Coverage;
 pub use files::{BAD_FAMILIES, BadFile, bad, bad_file, pack};
+pub use random::Random;
 
 use families::Made;
-use random::Random;
 
 /// An image, and the length in u32 words of a record buffer to search it with.
 #[derive(Clone, Debug, PartialEq, Eq)]

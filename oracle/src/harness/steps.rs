@@ -51,7 +51,7 @@ fn on<T>(image: Image, step: impl FnOnce(&BitMatrix) -> T) -> Marked<T> {
     (result, marks)
 }
 
-/// An image prepared once, whose pixels are read one by one. For timing.
+/// An image prepared once, with a log that its steps add to. For timing.
 pub struct Prepared(BitMatrix);
 
 impl Prepared {
@@ -67,6 +67,12 @@ impl Prepared {
             count += u32::from(self.0.get(column, row));
         }
         count
+    }
+
+    /// How many candidates the sweep finds.
+    #[inline(never)]
+    pub fn sweep(&self, capacity: usize) -> u32 {
+        find_concentric_circles(&self.0, capacity).map_or(0, |circles| circles.len() as u32)
     }
 }
 
@@ -118,6 +124,53 @@ pub fn kept(centres: &[(u32, u32)]) -> Vec<u32> {
         .collect();
     let kept = detect(Some(circles)).expect("there was a sweep");
     kept.iter().map(|circle| circle.radius).collect()
+}
+
+/// Indices of the candidates that are kept, ranked, each with its variance. The radius carries the index.
+pub fn kept_and_ranked(candidates: &[Candidate]) -> Vec<(u32, f32)> {
+    let image = blank(1, 1);
+    let kept = Ranking::new(&image, candidates).detect();
+    (kept.iter())
+        .map(|circle| (circle.radius, circle.calculate_circle_variance()))
+        .collect()
+}
+
+/// Candidates prepared once, to be kept and ranked. For timing.
+pub struct Ranking<'a>(Vec<Circle<'a>>);
+
+impl<'a> Ranking<'a> {
+    /// The image is any; the source asks nothing of it here.
+    fn new(image: &'a BitMatrix, candidates: &[Candidate]) -> Self {
+        let indexed = |(candidate, index): (&Candidate, u32)| Circle {
+            horizontal_buckets: candidate.row_runs,
+            vertical_buckets: candidate.column_runs,
+            ..circle(image, candidate.centre, index)
+        };
+        Self(candidates.iter().zip(0..).map(indexed).collect())
+    }
+
+    fn detect(self) -> Vec<Circle<'a>> {
+        detect(Some(self.0)).expect("there was a sweep")
+    }
+
+    /// How many are kept.
+    #[inline(never)]
+    pub fn run(self) -> u32 {
+        self.detect().len() as u32
+    }
+}
+
+impl Prepared {
+    /// Candidates to be kept and ranked.
+    pub fn ranking(&self, candidates: &[Candidate]) -> Ranking<'_> {
+        Ranking::new(&self.0, candidates)
+    }
+
+    /// The outcome of a circle's box and turn.
+    #[inline(never)]
+    pub fn box_symbol(&self, centre: (u32, u32), radius: u32) -> u32 {
+        boxed(&self.0, &mut circle(&self.0, centre, radius)).outcome
+    }
 }
 
 /// Width and height of the symbol by a radius and the three parameters.

@@ -1,4 +1,4 @@
--- `timed::count_row` meets its contract. The invariant is `Counting`: from the present column, what is left of the definition ends as the whole does.
+-- `steps::sweep::count_row` meets its contract. The invariant is `Counting`: from the present column, what is left of the definition ends as the whole does.
 -- The measure is the columns left. Assumes nothing.
 use Prim.Native.Nat.{ℕ, suc, _+_, _-_, _^_, _≤_, _<_}
 use mathlib.Core.Path.{_≡_, _∙_}
@@ -13,9 +13,9 @@ use Rattle.reads.specs.BitsLaws.{digit-low}
 use Rattle.reads.specs.Runs.{Ran, Resumes}
 use Rattle.reads.specs.RunsLaws.{ran-done, resumes-start, resumes-step, resumes-end}
 use Rattle.bit_matrix.specs.Pixels.{pixel}
-use Rattle.timed.specs.Row.{blackFrom}
-use Rattle.timed.proofs.count_row.Statement.{statement}
-use Rattle.timed.proofs.count_row.Tie as tie
+use Rattle.steps.specs.Row.{blackFrom}
+use Rattle.steps.proofs.sweep.count_row.Statement.{statement}
+use Rattle.steps.proofs.sweep.count_row.Tie as tie
 
 record Counting (words marks₀ : List ℕ) (rowWords row columns : ℕ) (marks : List ℕ) (count x : ℕ) : Type 0 where
   sized : length marks ≡ length words

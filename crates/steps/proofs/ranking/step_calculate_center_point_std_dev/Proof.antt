@@ -1,0 +1,44 @@
+-- `steps::ranking::step_calculate_center_point_std_dev` meets its contract. Assumes nothing.
+use mathlib.Core.Path.{refl}
+use native.Mathlib.Omega.{arith}
+use borrow.Author.Needs.{needs}
+use Rattle.steps.proofs.Guarding.{refuse, refuse-test, small-passed, answer, candidates, spread-words}
+use Rattle.steps.proofs.ranking.step_calculate_center_point_std_dev.Statement.{statement}
+use Rattle.steps.proofs.ranking.step_calculate_center_point_std_dev.Tie as tie
+
+returns : tie.Need-returns
+returns c = refuse (λ f. omega (arith, f .0)) (refl, refl)
+
+mul-if2 : tie.Need-mul-if2
+mul-if2 c = search needs
+
+returns-2 : tie.Need-returns-2
+returns-2 c = refuse (λ f. omega (arith, f .1)) (refl, refl)
+
+mul-all-small : tie.Need-mul-all-small
+mul-all-small c = search needs
+
+all-small-requires : tie.Need-all-small-requires
+all-small-requires c κs = search needs
+
+returns-3 : tie.Need-returns-3
+returns-3 c = refuse-test (c .before .all-small .ensures) (c .if3 .taken) (λ f. f .2) (refl, refl)
+
+calculate-center-point-std-dev-requires : tie.Need-calculate-center-point-std-dev-requires
+calculate-center-point-std-dev-requires c κs = search (candidates, small-passed, needs)
+
+returns-4 : tie.Need-returns-4
+returns-4 c = answer (search (small-passed, needs)) (refl, search spread-words)
+
+pub step-calculate-center-point-std-dev-spec : {M : Type 1} → statement M
+step-calculate-center-point-std-dev-spec =
+    tie.close
+    (tie.spec
+    returns
+    mul-if2
+    returns-2
+    mul-all-small
+    all-small-requires
+    returns-3
+    calculate-center-point-std-dev-requires
+    returns-4)
