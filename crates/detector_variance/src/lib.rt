@@ -2,31 +2,32 @@
 // ask nothing of their argument, so no function's proof needs a float's range.
 ghost use mathlib.Core.Path.{_≡_};
 ghost use Prim.Native.Nat.{_<_};
-ghost use Rattle.detector_variance.specs.Variance.{widthTo, further, varianceTo, expectedArea, areaVariance, moduleSize, variance, Short};
+ghost use lib.ListN.{getD};
+ghost use Rattle.detector_variance.specs.Variance.{evens, odds, others, widthTo, further, varianceTo, expectedArea, areaVariance, variance, Short};
 
-// The sum of the row and column runs that t takes.
-fn total_width(t: &[u8; 11], h: &[u32], v: &[u32]) -> u32
-    requires { ⌜ Short (now h) ⌝ ∗ ⌜ Short (now v) ⌝ }
-    ensures { λ r. ⌜ r ≡ widthTo (now (t .entry)) (now (h .entry)) (now (v .entry)) 11 ⌝ }
+// Run i.
+fn run(runs: &[u32], i: usize) -> u32
+    requires { ⌜ Short (now runs) ⌝ ∗ ⌜ i < 11 ⌝ }
+    ensures { λ r. ⌜ (r ≡ getD (now (runs .entry)) i 0) × (r < 65536) ⌝ }
 {
-    let mut sum = 0u32;
-    let mut i = 0usize;
-    while i < 11 {
-        let at = i;
-        i += 1;
-        if t[at] == 1 {
-            sum = sum + (h[at] + v[at]);
-        }
-    }
-    sum
+    runs[i]
 }
 
-// A tenth of the width that t takes.
-fn estimated_module_size(t: &[u8; 11], h: &[u32], v: &[u32]) -> f32
+// The width of the even runs, row and column.
+fn total_width_even(h: &[u32], v: &[u32]) -> u32
     requires { ⌜ Short (now h) ⌝ ∗ ⌜ Short (now v) ⌝ }
-    ensures { λ r. ⌜ r ≡ moduleSize (now (t .entry)) (now (h .entry)) (now (v .entry)) ⌝ }
+    ensures { λ r. ⌜ r ≡ widthTo evens (now (h .entry)) (now (v .entry)) 11 ⌝ }
 {
-    std::num::nearest_u32_to_f32(total_width(t, h, v)) / 10.0
+    let first = run(h, 0) + run(v, 0) + run(h, 2) + run(v, 2) + run(h, 4) + run(v, 4);
+    first + run(h, 6) + run(v, 6) + run(h, 8) + run(v, 8) + run(h, 10) + run(v, 10)
+}
+
+// The width of the odd runs but the middle one.
+fn total_width_odd(h: &[u32], v: &[u32]) -> u32
+    requires { ⌜ Short (now h) ⌝ ∗ ⌜ Short (now v) ⌝ }
+    ensures { λ r. ⌜ r ≡ widthTo odds (now (h .entry)) (now (v .entry)) 11 ⌝ }
+{
+    run(h, 1) + run(v, 1) + run(h, 3) + run(v, 3) + run(h, 7) + run(v, 7) + run(h, 9) + run(v, 9)
 }
 
 // acc, and how far the run n is from what is expected.
@@ -36,21 +37,40 @@ fn further_by(expected: f32, acc: f32, n: u32) -> f32
     acc + ieee::abs_f32(expected - std::num::nearest_u32_to_f32(n))
 }
 
-// How far the row runs that t takes are from what is expected, added in their order.
-fn total_variance(t: &[u8; 11], h: &[u32], expected: f32) -> f32
+// How far the even row runs are from what is expected, added in their order.
+fn total_variance_even(h: &[u32], expected: f32) -> f32
     requires { ⌜ Short (now h) ⌝ }
-    ensures { λ r. ⌜ r ≡ varianceTo (now (t .entry)) (now (h .entry)) expected 11 ⌝ }
+    ensures { λ r. ⌜ r ≡ varianceTo evens (now (h .entry)) expected 11 ⌝ }
 {
-    let mut acc = 0.0f32;
-    let mut i = 0usize;
-    while i < 11 {
-        let at = i;
-        i += 1;
-        if t[at] == 1 {
-            acc = further_by(expected, acc, h[at]);
-        }
-    }
-    acc
+    let to_0 = further_by(expected, 0.0, run(h, 0));
+    let to_2 = further_by(expected, to_0, run(h, 2));
+    let to_4 = further_by(expected, to_2, run(h, 4));
+    let to_6 = further_by(expected, to_4, run(h, 6));
+    let to_8 = further_by(expected, to_6, run(h, 8));
+    further_by(expected, to_8, run(h, 10))
+}
+
+// The same of all row runs but the first and the middle one, up to run 4, and then on to run 10.
+fn total_variance_odd_front(h: &[u32], expected: f32) -> f32
+    requires { ⌜ Short (now h) ⌝ }
+    ensures { λ r. ⌜ r ≡ varianceTo others (now (h .entry)) expected 5 ⌝ }
+{
+    let to_1 = further_by(expected, 0.0, run(h, 1));
+    let to_2 = further_by(expected, to_1, run(h, 2));
+    let to_3 = further_by(expected, to_2, run(h, 3));
+    further_by(expected, to_3, run(h, 4))
+}
+
+fn total_variance_odd(h: &[u32], expected: f32) -> f32
+    requires { ⌜ Short (now h) ⌝ }
+    ensures { λ r. ⌜ r ≡ varianceTo others (now (h .entry)) expected 11 ⌝ }
+{
+    let to_4 = total_variance_odd_front(h, expected);
+    let to_6 = further_by(expected, to_4, run(h, 6));
+    let to_7 = further_by(expected, to_6, run(h, 7));
+    let to_8 = further_by(expected, to_7, run(h, 8));
+    let to_9 = further_by(expected, to_8, run(h, 9));
+    further_by(expected, to_9, run(h, 10))
 }
 
 // The area of a circle as wide as the run n.
@@ -74,11 +94,10 @@ pub fn calculate_circle_variance(h: &[u32], v: &[u32]) -> f32
     requires { ⌜ Short (now h) ⌝ ∗ ⌜ Short (now v) ⌝ }
     ensures { λ r. ⌜ r ≡ variance (now (h .entry)) (now (v .entry)) ⌝ }
 {
-    let evens = [1u8, 0, 1, 0, 1, 0, 1, 0, 1, 0, 1];
-    let odds = [0u8, 1, 0, 1, 0, 0, 0, 1, 0, 1, 0];
-    let others = [0u8, 1, 1, 1, 1, 0, 1, 1, 1, 1, 1];
-    let even = total_variance(&evens, h, estimated_module_size(&evens, h, v));
-    let odd = total_variance(&others, h, estimated_module_size(&odds, h, v));
+    let module_even = std::num::nearest_u32_to_f32(total_width_even(h, v)) / 10.0;
+    let module_odd = std::num::nearest_u32_to_f32(total_width_odd(h, v)) / 10.0;
+    let even = total_variance_even(h, module_even);
+    let odd = total_variance_odd(h, module_odd);
     let horizontal = expected_area(v[5]);
     let vertical = expected_area(h[5]);
     (even + odd + circle_area_variance(horizontal, vertical)) / 3.0
