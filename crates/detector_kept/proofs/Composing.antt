@@ -4,13 +4,13 @@ use native.Mathlib.Omega.{arith}
 use mathlib.Core.Path.{_≡_, sym, ap, ap₂, _∙_}
 use mathlib.Core.List.{List, _++_, map, append-assoc}
 use lib.ListN.{length, take, drop, replicate}
-use Rattle.records.specs.Records.{Record, rows, flat, Became, Each}
+use Rattle.records.specs.Records.{Record, rows, flat, capacityOf, laidOut, Became, Each}
 use Rattle.records.specs.RecordsLaws.{length-rows, take-flat, rows-front, drop-later, each-filter, each-map, each-both, rows-whole}
 use Rattle.detector_kept.specs.Spread.{spread}
 use Rattle.detector_kept.specs.Retain.{near, retain, Retained}
 use Rattle.detector_rank.specs.Rank.{withVariance, rank, Small, Plain, Rankable}
 use Rattle.detector_rank.specs.RankLaws.{varied-plain}
-use Rattle.detector_kept.specs.Kept.{Candidates, ranked, capacityOf, after, KeptAndRanked}
+use Rattle.detector_kept.specs.Kept.{Candidates, ranked, KeptAndRanked}
 use Rattle.detector_kept.specs.declared.Spread.{Spread}
 
 module _ {found : ℕ} {l₀ : List ℕ} (held : Candidates found l₀) {s : Spread} {kept : ℕ} {l₁ : List ℕ} (retained : Retained found s l₀ kept l₁) where
@@ -53,7 +53,7 @@ module _ {found : ℕ} {l₀ : List ℕ} (held : Candidates found l₀) {s : Spr
 
       pub composed : length l₃ ≡ n → (l₄ : List ℕ) → l₄ ≡ take (40 * kept) l₃ ++ replicate (40 * (capacity - kept)) 0 ++ drop (40 * kept + 40 * (capacity - kept)) l₃
           → KeptAndRanked found l₀ kept l₄
-      unfolding after
+      unfolding laidOut
       composed sized₃ l₄ cleared = record {
         counted = counts;
         few = retained .few;

@@ -1,9 +1,9 @@
 -- What `keep_and_rank` leaves in the record buffer. Definitions only. Assumes nothing.
-use Prim.Native.Nat.{ℕ, _-_, _*_, _/_, _≤_, min}
+use Prim.Native.Nat.{ℕ, _*_, _≤_}
 use mathlib.Core.Path.{_≡_}
-use mathlib.Core.List.{List, map, _++_}
-use lib.ListN.{length, drop, replicate}
-use Rattle.records.specs.Records.{Record, rows, flat, Each}
+use mathlib.Core.List.{List, map}
+use lib.ListN.{length}
+use Rattle.records.specs.Records.{Record, rows, capacityOf, laidOut, Each}
 use Rattle.detector_kept.specs.Spread.{spread}
 use Rattle.detector_kept.specs.Retain.{retain}
 use Rattle.detector_rank.specs.Rank.{withVariance, rank, Small}
@@ -19,17 +19,9 @@ unfoldable pub ranked : List Record → List Record
 unfolding spread withVariance rank
 ranked rs = rank (map withVariance (retain (spread rs) rs))
 
--- how many records a buffer of n words may hold
-abbrev pub capacityOf : ℕ → ℕ
-capacityOf n = min 1024 (n / 40)
-
--- The ranked records stand at the front, zeros from there to the capacity, and what is beyond is as it was.
-unfoldable pub after : ℕ → List ℕ → List ℕ
-unfolding rows flat ranked
-after found words =
-    let rs = ranked (rows found words) in
-    let capacity = capacityOf (length words) in
-    flat rs ++ replicate (40 * (capacity - length rs)) 0 ++ drop (40 * capacity) words
+-- the buffer afterwards, with the ranked records
+abbrev pub after : ℕ → List ℕ → List ℕ
+after found words = laidOut (capacityOf (length words)) (ranked (rows found words)) words
 
 pub record KeptAndRanked (found : ℕ) (before : List ℕ) (kept : ℕ) (words : List ℕ) : Type 0 where
   pub counted : kept ≡ length (ranked (rows found before))

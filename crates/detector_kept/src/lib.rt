@@ -6,7 +6,7 @@ ghost use lib.ListN.{length};
 ghost use Rattle.records.specs.Records.{rows, get};
 ghost use Rattle.detector_kept.specs.Spread.{column, total, squares, mean, deviation, spread};
 ghost use Rattle.detector_kept.specs.Retain.{within, near, Retained};
-ghost use Rattle.detector_kept.specs.Kept.{Candidates, capacityOf, KeptAndRanked};
+ghost use Rattle.detector_kept.specs.Kept.{Candidates, KeptAndRanked};
 ghost use lib.Ieee as Ieee;
 
 // How far the centres go, and about which mean: both truncated.
@@ -122,14 +122,6 @@ fn retain_near(words: &mut [u32], found: usize, spread: Spread) -> usize
     kept
 }
 
-// How many records a buffer of n words may hold.
-fn capacity_of(n: usize) -> usize
-    ensures { λ r. ⌜ r ≡ capacityOf n ⌝ }
-{
-    let whole = n / 40;
-    if whole < 1024 { whole } else { 1024 }
-}
-
 // What `detect` of detector.rs does with the sweep's candidates: those within the deviation are kept, with their
 // variance, and ranked by it. The other records become zeros, up to the capacity. The number kept is returned.
 pub fn keep_and_rank(words: &mut [u32], found: usize) -> usize
@@ -140,7 +132,7 @@ pub fn keep_and_rank(words: &mut [u32], found: usize) -> usize
     let kept = retain_near(words, found, spread);
     detector_rank::set_variances(words, kept);
     detector_rank::rank_records(words, kept);
-    let capacity = capacity_of(words.len());
+    let capacity = records::capacity_of(words.len());
     records::clear(words, 40 * kept, 40 * (capacity - kept));
     kept
 }

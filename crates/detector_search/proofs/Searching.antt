@@ -12,15 +12,15 @@ use Rattle.reads.specs.Bits.{zeros}
 use Rattle.reads.specs.Runs.{valueOf, Ran}
 use Rattle.reads.specs.RunsLaws.{ran-done, ran-bind, ran-then, ran-else, always-ran}
 use Rattle.crop.specs.Crop.{rowWords, imageWords}
-use Rattle.records.specs.Records.{Record, rows, flat, Each}
-use Rattle.records.specs.RecordsLaws.{length-rows, drop-later, take-flat}
+use Rattle.records.specs.Records.{Record, rows, flat, capacityOf, laidOut, Each}
+use Rattle.records.specs.RecordsLaws.{length-rows, drop-later, take-flat, each-weaker}
 use Rattle.detector_turn.specs.Scales.{ImageBounds}
 use Rattle.detector_candidates.specs.Candidates.{concentricCircles, Room, Listed}
 use Rattle.detector_candidates.specs.CandidatesLaws.{Fit, circles-fit}
 use Rattle.detector_rank.specs.Rank.{varianceBits, withVariance, Small}
-use Rattle.detector_kept.specs.Kept.{ranked, capacityOf, after, Candidates, KeptAndRanked}
+use Rattle.detector_kept.specs.Kept.{ranked, Candidates, KeptAndRanked}
 use Rattle.detector_kept.specs.KeptLaws.{each-ranked}
-use Rattle.detector_search.specs.Search.{Found, boxedAll, Boxable, AllBoxable, Boxed, found, searchAt, laidOut, Ready, Sought}
+use Rattle.detector_search.specs.Search.{Found, boxedAll, Boxable, AllBoxable, Boxed, found, searchAt, Ready, Sought}
 use Rattle.detector_search.specs.declared.Counts.{Counts}
 
 -- the variance's word is none of those that the box takes
@@ -41,11 +41,6 @@ all-zeros capacity = omega arith
 no-records : (rs : List Record) → length rs ≤ 0 → rs ≡ []
 no-records [] h = refl
 no-records (r ∷ rs) h = absurd (omega arith)
-
-each-weaker : (P Q : Record → Type 0) → ((r : Record) → P r → Q r) → (rs : List Record) → Each P rs → Each Q rs
-unfolding Each
-each-weaker P Q gives [] each = tt
-each-weaker P Q gives (r ∷ rs) each = (gives r (each .0), each-weaker P Q gives rs (each .1))
 
 module _ {words marks circles : List ℕ} {width height capacity : ℕ} (ready : Ready words marks circles width height capacity) where
   pub bounds : ImageBounds (length words) (rowWords width) width height
@@ -132,7 +127,7 @@ module _ {words marks circles : List ℕ} {width height capacity : ℕ} (ready :
         capacities = ap capacityOf same ∙ sym (ready .capacity-is)
 
         buffer : c₂ ≡ laidOut capacity (ranked candidates) circles
-        unfolding after laidOut
+        unfolding laidOut
         buffer =
             ranks .written
             ∙ ap₂ (λ (rs : List Record) (c : ℕ). flat rs ++ zeros (40 * (c - length rs)) ++ drop (40 * c) c₁) kept-are capacities

@@ -1,19 +1,18 @@
 -- The steps of a search as one reading program of the image's size and the capacity: the sweep, the deviation rule, the ranking, and the box and turn of each
 -- kept record in rank order. Definitions only. Assumes nothing.
-use Prim.Native.Nat.{ℕ, _-_, _*_, _≤_, _<_}
+use Prim.Native.Nat.{ℕ, _*_, _≤_, _<_}
 use mathlib.Core.Path.{_≡_}
 use mathlib.Core.Bool.{cond}
 use mathlib.Core.List.{List, [], _∷_, _++_}
 use lib.Dec.{ltb}
-use lib.ListN.{length, getD, drop}
+use lib.ListN.{length, getD}
 use Rattle.reads.specs.Reads.{Reads, done, _>>=_}
 use Rattle.rxing_result_point.specs.declared.PointU.{PointU}
-use Rattle.reads.specs.Bits.{zeros}
 use Rattle.crop.specs.Crop.{rowWords, imageWords, Within}
 use Rattle.reads.specs.Runs.{valueOf, marksOf}
-use Rattle.records.specs.Records.{Record, rows, flat, Became, Each}
+use Rattle.records.specs.Records.{Record, rows, capacityOf, laidOut, Became, Each}
 use Rattle.detector_candidates.specs.Candidates.{concentricCircles}
-use Rattle.detector_kept.specs.Kept.{ranked, capacityOf}
+use Rattle.detector_kept.specs.Kept.{ranked}
 use Rattle.detector_box.specs.Boxes.{symbolAt, withSymbol}
 use Rattle.detector_search.specs.declared.Counts.{Counts}
 
@@ -74,10 +73,6 @@ searchAt width height capacity = do
         rs ← boxedAll (rowWords width) (imageWords width height) width height kept
         done (found 0 (length circles) rs))
       (done (found 8 (length circles) [])))
-
--- the record buffer afterwards: the kept records, zeros up to the capacity, and the rest as it was
-unfoldable pub laidOut : ℕ → List Record → List ℕ → List ℕ
-laidOut capacity rs before = flat rs ++ zeros (40 * (capacity - length rs)) ++ drop (40 * capacity) before
 
 -- what a search may assume: an accepted image, and buffers that fit it
 pub record Ready (words marks circles : List ℕ) (width height capacity : ℕ) : Type 0 where

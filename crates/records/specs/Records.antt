@@ -1,12 +1,16 @@
 -- A list of words as a list of records of 40 words. Definitions only. Assumes nothing.
-use Prim.Native.Nat.{ℕ, zero, suc, _+_, _*_, _≤_}
+use Prim.Native.Nat.{ℕ, zero, suc, _+_, _-_, _*_, _/_, _≤_, min}
 use mathlib.Core.Path.{_≡_}
 use mathlib.Core.Bool.{Bool, cond}
 use mathlib.Core.List.{List, [], _∷_, _++_}
-use lib.ListN.{length, take, drop}
+use lib.ListN.{length, take, drop, replicate}
 
 abbrev pub Record : Type 0
 Record = List ℕ
+
+-- how many records a buffer of n words may hold
+abbrev pub capacityOf : ℕ → ℕ
+capacityOf n = min 1024 (n / 40)
 
 -- the first n records of l
 unfoldable pub rows : ℕ → List ℕ → List Record
@@ -17,6 +21,10 @@ rows (suc n) l = take 40 l ∷ rows n (drop 40 l)
 unfoldable pub flat : List Record → List ℕ
 flat [] = []
 flat (r ∷ rs) = r ++ flat rs
+
+-- a buffer afterwards: the records rs, zeros up to the capacity, and the rest as it was
+unfoldable pub laidOut : ℕ → List Record → List ℕ → List ℕ
+laidOut capacity rs before = flat rs ++ replicate (40 * (capacity - length rs)) 0 ++ drop (40 * capacity) before
 
 -- record i
 unfoldable pub get : List ℕ → ℕ → Record

@@ -193,6 +193,11 @@ unfolding Each
 each-both P Q [] p q = tt
 each-both P Q (r ∷ rs) p q = ((p .0, q .0), each-both P Q rs (p .1) (q .1))
 
+pub each-weaker : (P Q : Record → Type 0) → ((r : Record) → P r → Q r) → (rs : List Record) → Each P rs → Each Q rs
+unfolding Each
+each-weaker P Q gives [] each = each
+each-weaker P Q gives (r ∷ rs) each = (gives r (each .0), each-weaker P Q gives rs (each .1))
+
 pub each-filter : (P : Record → Type 0) (p : Record → Bool) (rs : List Record) → Each P rs → Each P (filter p rs)
 unfolding Each filter
 each-filter P p [] each = each

@@ -3,7 +3,15 @@ ghost use mathlib.Core.Path.{_≡_};
 ghost use Prim.Native.Nat.{_+_, _*_, _≤_};
 ghost use mathlib.Core.List.{_++_};
 ghost use lib.ListN.{length, take, drop, replicate};
-ghost use Rattle.records.specs.Records.{get, put};
+ghost use Rattle.records.specs.Records.{capacityOf, get, put};
+
+// How many records a buffer of n words may hold.
+pub fn capacity_of(n: usize) -> usize
+    ensures { λ r. ⌜ r ≡ capacityOf n ⌝ }
+{
+    let whole = n / 40;
+    if whole < 1024 { whole } else { 1024 }
+}
 
 // Record i.
 pub fn load(words: &[u32], i: usize) -> [u32; 40]
