@@ -13,7 +13,7 @@ use Rattle.bit_matrix.specs.Pixels.{onesOf}
 use Rattle.crop.specs.Crop.{Within, imageWords, width, height, wordsRefusal, fileRefusal}
 use Rattle.crop.specs.Unpack.{image}
 use Rattle.records.specs.Records.{capacityOf, laidOut}
-use Rattle.detector_search.specs.Search.{Found, searchAt}
+use Rattle.detector_search.specs.Search.{Result, searchAt}
 use Rattle.detector_search.specs.declared.Counts.{Counts}
 use Rattle.detector.specs.declared.Report.{Report}
 
@@ -35,15 +35,15 @@ abbrev pub refusedRun : ℕ → List ℕ → List ℕ → Run
 refusedRun n records marks = run (record { answer = n; found = 0; kept = 0; marked = 0 }) records marks
 
 -- the steps of a search of an image, with a record buffer of n words
-abbrev pub steps : ℕ → ℕ → ℕ → Reads Found
+abbrev pub steps : ℕ → ℕ → ℕ → Reads Result
 steps w h n = searchAt w h (capacityOf n)
 
 -- accepted: the steps from cleared marks; the kept records, zeros up to the capacity, and the words beyond as they were
 unfoldable pub searchedRun : List ℕ → ℕ → ℕ → List ℕ → Run
 searchedRun words w h records =
-    let found = valueOf (steps w h (length records)) words in
+    let result = valueOf (steps w h (length records)) words in
     let marks = marksOf (steps w h (length records)) words (zeros (length words)) in
-    run (reportOf (found .counts) (onesOf marks)) (laidOut (capacityOf (length records)) (found .records) records) marks
+    run (reportOf (result .counts) (onesOf marks)) (laidOut (capacityOf (length records)) (result .records) records) marks
 
 -- an image in words: refused, or searched
 unfoldable pub wordsRun : List ℕ → ℕ → ℕ → List ℕ → List ℕ → Run
@@ -65,7 +65,7 @@ fileRun file words records marks =
     let number = fileRefusal file (length words) (length marks) (length records) in
     cond (eqb number 0) (filed (image file) (searchedRun (image file) (width file) (height file) records)) (filed words (refusedRun number records marks))
 
--- an accepted image, and buffers that fit it
+-- the dimensions of an accepted image, and buffers that fit it
 pub record Fit (words : List ℕ) (w h : ℕ) (marks records : List ℕ) : Type 0 where
   pub within : Within w h
   pub size : length words ≡ imageWords w h

@@ -20,7 +20,7 @@ use Rattle.detector_candidates.specs.CandidatesLaws.{Fit, circles-fit}
 use Rattle.detector_rank.specs.Rank.{varianceBits, withVariance, Small}
 use Rattle.detector_kept.specs.Kept.{ranked, Candidates, KeptAndRanked}
 use Rattle.detector_kept.specs.KeptLaws.{each-ranked}
-use Rattle.detector_search.specs.Search.{Found, boxedAll, Boxable, AllBoxable, Boxed, found, searchAt, Ready, Sought}
+use Rattle.detector_search.specs.Search.{Result, boxedAll, Boxable, AllBoxable, Boxed, resultOf, searchAt, Ready, Sought}
 use Rattle.detector_search.specs.declared.Counts.{Counts}
 
 -- the variance's word is none of those that the box takes
@@ -59,7 +59,7 @@ module _ {words marks circles : List ℕ} {width height capacity : ℕ} (ready :
   abbrev sweep : Reads (List Record)
   sweep = concentricCircles (rowWords width) (imageWords width height) width height capacity
 
-  abbrev whole : Reads Found
+  abbrev whole : Reads Result
   whole = searchAt width height capacity
 
   -- after the sweep
@@ -87,11 +87,11 @@ module _ {words marks circles : List ℕ} {width height capacity : ℕ} (ready :
     unfolding searchAt laidOut flat
     too-many {c₂} {r} full cleared made =
         let more : capacity < length candidates = omega (arith, counted) in
-        let end : Ran whole words marks (found 7 (length candidates) []) m₁ =
+        let end : Ran whole words marks (resultOf 7 (length candidates) []) m₁ =
         ran-bind _ ran (ran-then _ _ (lt-ltb capacity _ more) (ran-done _)) in
         record {
-          counts = made ∙ ap (λ (k : ℕ). record { answer = 7; found = k; kept = 0 }) counted ∙ ap (λ (f : Found). f .counts) (end .result);
-          stored = cleared ∙ ap (λ (k : ℕ). zeros (40 * capacity) ++ drop k c₁) (zero-add (40 * capacity)) ∙ ap₂ (λ (k : ℕ) (t : List ℕ). zeros k ++ t) (all-zeros capacity) beyond ∙ ap (λ (f : Found). laidOut capacity (f .records) circles) (end .result);
+          counts = made ∙ ap (λ (k : ℕ). record { answer = 7; found = k; kept = 0 }) counted ∙ ap (λ (f : Result). f .counts) (end .result);
+          stored = cleared ∙ ap (λ (k : ℕ). zeros (40 * capacity) ++ drop k c₁) (zero-add (40 * capacity)) ∙ ap₂ (λ (k : ℕ) (t : List ℕ). zeros k ++ t) (all-zeros capacity) beyond ∙ ap (λ (f : Result). laidOut capacity (f .records) circles) (end .result);
           marked = end .marked;
         }
 
@@ -141,12 +141,12 @@ module _ {words marks circles : List ℕ} {width height capacity : ℕ} (ready :
         none-kept {r} none made =
             let room : length candidates ≤ capacity = omega (arith, counted) in
             let empty : length (ranked candidates) ≤ 0 = omega (arith, number) in
-            let end : Ran whole words marks (found 8 (length candidates) []) m₁ =
+            let end : Ran whole words marks (resultOf 8 (length candidates) []) m₁ =
             ran-bind _ ran (ran-else _ _ (le-ltb capacity _ room) (ran-else _ _ (le-ltb 0 _ empty) (ran-done _))) in
             record {
-              counts = made ∙ ap (λ (j : ℕ). record { answer = 8; found = j; kept = 0 }) counted ∙ ap (λ (f : Found). f .counts) (end .result);
+              counts = made ∙ ap (λ (j : ℕ). record { answer = 8; found = j; kept = 0 }) counted ∙ ap (λ (f : Result). f .counts) (end .result);
               stored = buffer ∙ ap (λ (rs : List Record). laidOut capacity rs circles) (no-records (ranked candidates) empty)
-                  ∙ ap (λ (f : Found). laidOut capacity (f .records) circles) (end .result);
+                  ∙ ap (λ (f : Result). laidOut capacity (f .records) circles) (end .result);
               marked = end .marked;
             }
 
@@ -204,10 +204,10 @@ module _ {words marks circles : List ℕ} {width height capacity : ℕ} (ready :
               let room : length candidates ≤ capacity = omega (arith, counted) in
               let more : 0 < length (ranked candidates) = omega (arith, number) in
               let ran-turn : Ran turn words m₁ boxed m₂ = record { result = refl; marked = boxing .marked } in
-              let end : Ran whole words marks (found 0 (length candidates) boxed) m₂ =
+              let end : Ran whole words marks (resultOf 0 (length candidates) boxed) m₂ =
               ran-bind _ ran (ran-else _ _ (le-ltb capacity _ room) (ran-then _ _ (lt-ltb 0 _ more) (ran-bind _ ran-turn (ran-done _)))) in
               record {
-                counts = made ∙ ap₂ (λ (i j : ℕ). record { answer = 0; found = i; kept = j }) counted (sym as-many) ∙ ap (λ (f : Found). f .counts) (end .result);
-                stored = laid ∙ ap (λ (f : Found). laidOut capacity (f .records) circles) (end .result);
+                counts = made ∙ ap₂ (λ (i j : ℕ). record { answer = 0; found = i; kept = j }) counted (sym as-many) ∙ ap (λ (f : Result). f .counts) (end .result);
+                stored = laid ∙ ap (λ (f : Result). laidOut capacity (f .records) circles) (end .result);
                 marked = end .marked;
               }

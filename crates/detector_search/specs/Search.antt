@@ -37,7 +37,7 @@ module _ (rowWords size width height : ℕ) where
   abbrev pub boxedAll : List Record → Reads (List Record)
   boxedAll rs = boxedFrom [] rs
 
--- what a kept record must be for its box: its centre lies inside the image, and its radius is neither too small nor too large
+-- what a kept record must be for its box: its centre lies inside the image, and its radius is from 6 to 2,047
 pub record Boxable (width height : ℕ) (r : Record) : Type 0 where
   pub column : getD r 0 0 < width
   pub row : getD r 1 0 < height
@@ -54,27 +54,27 @@ pub record Boxed (p : Reads (List Record)) (n : ℕ) (words marks buffer marks�
   pub stored : Became n buffer (valueOf p words) buffer′
   pub marked : marks′ ≡ marksOf p words marks
 
--- what a search finds: its answer and counts, and the kept records
-pub record Found : Type 0 where
+-- what a search gives: its answer and counts, and the kept records
+pub record Result : Type 0 where
   pub counts : Counts
   pub records : List Record
 
-abbrev pub found : ℕ → ℕ → List Record → Found
-found answer candidates rs = record { counts = record { answer = answer; found = candidates; kept = length rs }; records = rs }
+abbrev pub resultOf : ℕ → ℕ → List Record → Result
+resultOf answer candidates rs = record { counts = record { answer = answer; found = candidates; kept = length rs }; records = rs }
 
 -- the search of an image, by its width and height and the record buffer's capacity
-unfoldable pub searchAt : ℕ → ℕ → ℕ → Reads Found
+unfoldable pub searchAt : ℕ → ℕ → ℕ → Reads Result
 searchAt width height capacity = do
   circles ← concentricCircles (rowWords width) (imageWords width height) width height capacity
   let kept = ranked circles
-  cond (ltb capacity (length circles)) (done (found 7 (length circles) []))
+  cond (ltb capacity (length circles)) (done (resultOf 7 (length circles) []))
       (cond (ltb 0 (length kept))
       (do
         rs ← boxedAll (rowWords width) (imageWords width height) width height kept
-        done (found 0 (length circles) rs))
-      (done (found 8 (length circles) [])))
+        done (resultOf 0 (length circles) rs))
+      (done (resultOf 8 (length circles) [])))
 
--- what a search may assume: an accepted image, and buffers that fit it
+-- what a search may assume: the dimensions of an accepted image, and buffers that fit it
 pub record Ready (words marks circles : List ℕ) (width height capacity : ℕ) : Type 0 where
   pub within : Within width height
   pub size : length words ≡ imageWords width height
@@ -82,7 +82,7 @@ pub record Ready (words marks circles : List ℕ) (width height capacity : ℕ) 
   pub capacity-is : capacity ≡ capacityOf (length circles)
 
 -- the search p, run over `words`, reports r, and takes the marks and the records from what they were to what they are
-pub record Sought (p : Reads Found) (capacity : ℕ) (words marks circles : List ℕ) (r : Counts) (marks′ circles′ : List ℕ) : Type 0 where
+pub record Sought (p : Reads Result) (capacity : ℕ) (words marks circles : List ℕ) (r : Counts) (marks′ circles′ : List ℕ) : Type 0 where
   pub counts : r ≡ (valueOf p words) .counts
   pub stored : circles′ ≡ laidOut capacity ((valueOf p words) .records) circles
   pub marked : marks′ ≡ marksOf p words marks
