@@ -3,7 +3,7 @@
 use Prim.Native.Nat.{ℕ, _*_, _≤_, _<_}
 use mathlib.Core.Path.{_≡_}
 use mathlib.Core.Bool.{cond}
-use mathlib.Core.List.{List, [], _∷_, _++_}
+use mathlib.Core.List.{List, [], _∷_}
 use lib.Dec.{ltb}
 use lib.ListN.{length, getD}
 use Rattle.reads.specs.Reads.{Reads, done, _>>=_}
@@ -27,15 +27,13 @@ module _ (rowWords size width height : ℕ) where
     symbol ← symbolAt rowWords size width height (getD r 2 0) (centerOf r)
     done (withSymbol r symbol)
 
-  -- those that have their symbol, and then each of the others, one after another
-  unfoldable pub boxedFrom : List Record → List Record → Reads (List Record)
-  boxedFrom first [] = done first
-  boxedFrom first (r ∷ rs) = do
+  -- each record with its symbol, one after another
+  unfoldable pub boxedAll : List Record → Reads (List Record)
+  boxedAll [] = done []
+  boxedAll (r ∷ rs) = do
     b ← boxed r
-    boxedFrom (first ++ b ∷ []) rs
-
-  abbrev pub boxedAll : List Record → Reads (List Record)
-  boxedAll rs = boxedFrom [] rs
+    bs ← boxedAll rs
+    done (b ∷ bs)
 
 -- what a kept record must be for its box: its centre lies inside the image, and its radius is from 6 to 2,047
 pub record Boxable (width height : ℕ) (r : Record) : Type 0 where

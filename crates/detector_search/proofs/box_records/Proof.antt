@@ -14,7 +14,8 @@ use Rattle.reads.specs.RunsLaws.{ran-done, resumes-start, resumes-step, resumes
 use Rattle.records.specs.Records.{Record, rows, get, put, Became, Beside, Each}
 use Rattle.records.specs.RecordsLaws.{length-rows, get-row, replaced, beside-start, beside-then, beside-room, each-at}
 use Rattle.detector_turn.specs.Scales.{ImageBounds}
-use Rattle.detector_search.specs.Search.{boxed, boxedFrom, boxedAll, Boxable, AllBoxable, Boxed}
+use Rattle.detector_search.specs.Search.{boxed, boxedAll, Boxable, AllBoxable, Boxed}
+use Rattle.detector_search.proofs.OneByOne.{boxedFrom, all-at-once}
 use Rattle.detector_search.proofs.box_records.Statement.{statement}
 use Rattle.detector_search.proofs.box_records.Tie as tie
 
@@ -27,7 +28,7 @@ record Boxing (words marks₀ circles₀ : List ℕ) (rowWords width height kept
   back : drop i (rows kept circles) ≡ drop i (rows kept circles₀)
   resumes : Resumes words
       (boxedFrom rowWords (length words) width height (take i (rows kept circles)) (drop i (rows kept circles₀))) marks
-      (boxedAll rowWords (length words) width height (rows kept circles₀)) marks₀
+      (boxedFrom rowWords (length words) width height [] (rows kept circles₀)) marks₀
 
 begins : {words marks circles : List ℕ} {rowWords width height kept : ℕ} → length marks ≡ length words → ImageBounds (length words) rowWords width height
     → AllBoxable width height kept circles
@@ -108,7 +109,7 @@ module _ {words marks₀ circles₀ marks circles : List ℕ} {rowWords width he
           ap (λ (k : ℕ). drop k (rows kept circles₀)) last ∙ drop-length (rows kept circles₀)
 
       end : Ran (boxedAll rowWords (length words) width height (rows kept circles₀)) words marks₀ (take i (rows kept circles)) marks
-      end = resumes-end (ran-done _) (rw none at (so-far .resumes))
+      end = all-at-once rowWords (length words) width height (rows kept circles₀) (resumes-end (ran-done _) (rw none at (so-far .resumes)))
 
 abbrev Inv-loop : tie.InvT-loop
 Inv-loop words marks₀ circles₀ rowWords width height kept table i₀ marks circles i = Boxing words marks₀ circles₀ rowWords width height kept marks circles i
