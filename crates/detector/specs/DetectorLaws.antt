@@ -22,18 +22,19 @@ use Rattle.detector.specs.declared.Report.{Report}
 -- ---- an accepted image
 
 -- the marks cleared, the search run from there, and the marks counted
-pub searched-by : (w h : ℕ) {words cleared records marks′ records′ : List ℕ} {capacity n size : ℕ} {c : Counts} {r : Report} → size ≡ length words
-    → cleared ≡ zeros size → capacity ≡ capacityOf (length records) → Sought (searchAt w h capacity) capacity words cleared records c marks′ records′
-    → n ≡ onesOf marks′ → r ≡ reportOf c n → run r records′ marks′ ≡ searchedRun words w h records
+pub searched-by : (w h : ℕ) {words marks cleared records marks′ records′ : List ℕ} {capacity n : ℕ} {c : Counts} {r : Report} → Fit words w h marks records
+    → cleared ≡ zeros (length marks) → capacity ≡ capacityOf (length records)
+    → Sought (searchAt w h capacity) capacity words cleared records c marks′ records′ → n ≡ onesOf marks′ → r ≡ reportOf c n
+    → run r records′ marks′ ≡ searchedRun words w h records
 unfolding searchedRun
-searched-by w h {words} {cleared} {records} {marks′} {records′} {capacity} {n} {size} {c} {r} same clear room sought counted made =
+searched-by w h {words} {marks} {cleared} {records} {marks′} {records′} {capacity} {n} {c} {r} fit clear room sought counted made =
     let full : Sought (steps w h (length records)) (capacityOf (length records)) words cleared records c marks′ records′ = rw room at sought in
-    let marks : marks′ ≡ marksOf (steps w h (length records)) words (zeros (length words)) =
-    full .marked ∙ ap (marksOf (steps w h (length records)) words) (clear ∙ ap zeros same) in
+    let marked : marks′ ≡ marksOf (steps w h (length records)) words (zeros (length words)) =
+    full .marked ∙ ap (marksOf (steps w h (length records)) words) (clear ∙ ap zeros (fit .marks-size)) in
     let report : r ≡ reportOf ((valueOf (steps w h (length records)) words) .counts) (onesOf (marksOf (steps w h (length records)) words (zeros (length words)))) =
-    made ∙ ap₂ reportOf (full .counts) (counted ∙ ap onesOf marks) in
+    made ∙ ap₂ reportOf (full .counts) (counted ∙ ap onesOf marked) in
     ap₂ (λ (x : Report) (l : List ℕ). run x l marks′) report (full .stored)
-    ∙ ap (run _ (laidOut (capacityOf (length records)) ((valueOf (steps w h (length records)) words) .records) records)) marks
+    ∙ ap (run _ (laidOut (capacityOf (length records)) ((valueOf (steps w h (length records)) words) .records) records)) marked
 
 -- ---- an image in words
 

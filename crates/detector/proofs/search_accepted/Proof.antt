@@ -1,5 +1,6 @@
 -- `detector::search_accepted` meets its contract: the marks cleared, the search run from there, and the marks counted. Assumes nothing.
 use Rattle.detector.specs.DetectorLaws.{searched-by}
+use mathlib.Core.Path.{refl}
 use borrow.Author.Needs.{needs}
 use Rattle.detector.proofs.search_accepted.Statement.{statement}
 use Rattle.detector.proofs.search_accepted.Tie as tie
@@ -23,7 +24,12 @@ same-length-2 : tie.Need-same-length-2
 same-length-2 c = search needs
 
 returns : tie.Need-returns
-returns c = search searched-by
+returns c =
+    let searched = c .before .before .before .before .before .before in
+    let counted = searched .before .before .before in
+    let cleared = counted .before .before .before in
+    let start = cleared .before .before .before .before .before in
+    searched-by _ _ (start .pre) (cleared .clear .ensures) (counted .capacity-of .ensures) (searched .search .ensures) (c .count-marks .ensures) refl
 
 pub search-accepted-spec : {M : Type 1} → statement M
 search-accepted-spec =
