@@ -1,8 +1,7 @@
 -- `Size` and `Boundary` have the definitions. `SizeLaws` and `ShiftLaws` say how large a size and a shift are, `Within` where the
--- boundaries lie. `NearPairs` has document 01's cases.
+-- boundaries lie.
 pub mod Size
 pub mod SizeLaws
 pub mod Boundary
 pub mod ShiftLaws
 pub mod Within
-pub mod NearPairs

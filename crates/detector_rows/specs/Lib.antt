@@ -1,4 +1,3 @@
 pub mod Rows
 pub mod RowsLaws
 pub mod Ring
-pub mod Examples

@@ -1,5 +1,4 @@
--- `Outcomes` and `Scales` have the definitions, `ScalesLaws` what holds of every turn. `NearPairs` has document 01's cases.
+-- `Outcomes` and `Scales` have the definitions, `ScalesLaws` what holds of every turn.
 pub mod Outcomes
 pub mod Scales
 pub mod ScalesLaws
-pub mod NearPairs

@@ -1,0 +1,103 @@
+-- Document 01, "Near pairs", as one table: a field for each case, in the order there, that says what a step's definition gives. `cases` proves the table, by
+-- computation. Assumes nothing.
+use Prim.Native.Nat.{ℕ, _+_, _*_, _^_}
+use mathlib.Core.Bool.{true, false}
+use mathlib.Core.List.{List, [], _∷_, _++_, flatMap}
+use mathlib.Core.Path.{_≡_, refl}
+use lib.ListN.{replicate}
+use lib.Ieee.{toSigned}
+use Rattle.ieee.specs.Integral.{floor}
+use Rattle.reads.specs.Reads.{_>>=_, value}
+use Rattle.reads.specs.Bits.{testBit, bitAt, range}
+use Rattle.reads.specs.Runs.{valueOf}
+use Rattle.bit_matrix.specs.Pixels.{pixel, tryGet}
+use Rattle.bit_matrix.specs.Area.{countBlack, tryGetArea}
+use Rattle.bit_matrix.specs.declared.Sample.{Sample}
+use Rattle.bit_matrix.specs.declared.Sample.the-variants.{Inside}
+use Rattle.rxing_result_point.specs.Points.{real}
+use Rattle.detector_widths.specs.Widths.{evenRunsPass, oddRunsPass, validWidths}
+use Rattle.detector_widths.specs.Buckets.{bump}
+use Rattle.detector_rows.specs.Rows.{total, metadata, none, skipWhite, windowBy, nextBullseyeBy, nextBullseye}
+use Rattle.detector_rows.specs.declared.Bullseye.{Bullseye}
+use Rattle.detector_variance.specs.Variance.{variance}
+use Rattle.records.specs.Records.{Record, filter}
+use Rattle.detector_kept.specs.Spread.{spread}
+use Rattle.detector_kept.specs.Retain.{near, retain}
+use Rattle.detector_boundary.specs.Size.{idealSide, guessedSize, plainSize}
+use Rattle.detector_boundary.specs.Boundary.{leftShift, rightShift, boundaryOf, plainBoundary}
+use Rattle.detector_boundary.specs.declared.Boundary.{Boundary}
+use Rattle.detector_points.specs.Orientation.{point, adjustedPoint}
+use Rattle.detector_turn.specs.Outcomes.{classOf}
+
+-- eleven runs of one length
+abbrev pub equal : ℕ → List ℕ
+equal run = replicate 11 run
+
+-- the first window of row 6, of 33 columns and rows of one word each, where the row has six black pixels, a column apart, the first at a column
+abbrev pub windowOf : ℕ → Bullseye
+windowOf first = valueOf (nextBullseye 1 33 33 6 6) (replicate 6 0 ++ 0x555 * 2 ^ first ∷ replicate 26 0)
+
+-- the area at a pixel, of 33 columns and rows of one word each; the list gives the first rows, and the others are white
+abbrev pub areaAt : ℕ → ℕ → List ℕ → Sample
+areaAt x y words = valueOf (tryGetArea 1 33 33 33 x y) words
+
+-- the candidates within the deviation
+abbrev pub keptOf : List Record → List Record
+keptOf rs = retain (spread rs) rs
+
+-- boundaries 60 wide and 66 high, the left one at 0
+abbrev pub raised : ℕ → Boundary
+raised bottom = record { left = 0; right = 60; top = bottom + 66; bottom = bottom }
+
+pub record Cases : Type 0 where
+  -- eleven runs
+  pub runs-all-1 : validWidths (equal 1) ≡ true
+  pub even-run-1-among-2s : validWidths (1 ∷ replicate 10 2) ≡ false
+  pub odd-runs-3-2-2-2 : validWidths (2 ∷ 3 ∷ replicate 9 2) ≡ false
+  -- width 33, runs of one pixel
+  pub runs-from-15 : windowOf 15 ≡ record { found = true; center = 20; radius = 6; buckets = equal 1 }
+  pub runs-from-16 : windowOf 16 ≡ none
+  -- areas; of the rows' words, column 0 is the last digit
+  pub two-of-four : areaAt 0 0 (0b01 ∷ 0b01 ∷ []) ≡ Inside true
+  pub one-of-four : areaAt 0 0 (0b01 ∷ 0b00 ∷ []) ≡ Inside false
+  pub five-of-nine : areaAt 1 1 (0b111 ∷ 0b010 ∷ 0b001 ∷ []) ≡ Inside true
+  pub four-of-nine : areaAt 1 1 (0b111 ∷ 0b000 ∷ 0b001 ∷ []) ≡ Inside false
+  -- row and column runs
+  pub runs-all-10 : variance (equal 10) (equal 10) ≡ real 10
+  -- three candidates by their centres, whatever their other words a, b and d: the deviation of y is the root of 8 / 3, 1
+  pub second-kept : (a b d : List ℕ) → keptOf ((50 ∷ 20 ∷ a) ∷ (50 ∷ 22 ∷ b) ∷ (50 ∷ 24 ∷ d) ∷ []) ≡ (50 ∷ 22 ∷ b) ∷ []
+  -- radius 6; about (60, 60) in 120 by 120
+  pub radius-6-size : plainSize 6 ≡ record { width = 42; height = 42 }
+  pub radius-6-boundary : plainBoundary 120 120 60 60 6 ≡ record { left = 41; right = 82; top = 81; bottom = 39 }
+  -- with the bottom at 50 the row is past the cap
+  pub bottom-0 : adjustedPoint (raised 0) (point 10 9) ≡ point 22 19
+  pub bottom-50 : adjustedPoint (raised 50) (point 10 9) ≡ point 22 65
+  -- classes of turns: the one line there without a P
+  pub turn-44 : classOf 44 ≡ 0
+  pub turn-46 : classOf 46 ≡ 1
+  pub turn-348 : classOf 348 ≡ 0
+
+pub cases : Cases
+unfolding toSigned floor _>>=_ value testBit bitAt range valueOf flatMap pixel tryGet countBlack tryGetArea
+    evenRunsPass oddRunsPass validWidths bump total metadata skipWhite windowBy nextBullseyeBy
+    variance filter spread near idealSide guessedSize leftShift rightShift boundaryOf adjustedPoint classOf
+cases = record {
+  runs-all-1 = refl;
+  even-run-1-among-2s = refl;
+  odd-runs-3-2-2-2 = refl;
+  runs-from-15 = refl;
+  runs-from-16 = refl;
+  two-of-four = refl;
+  one-of-four = refl;
+  five-of-nine = refl;
+  four-of-nine = refl;
+  runs-all-10 = refl;
+  second-kept = λ a b d. refl;
+  radius-6-size = refl;
+  radius-6-boundary = refl;
+  bottom-0 = refl;
+  bottom-50 = refl;
+  turn-44 = refl;
+  turn-46 = refl;
+  turn-348 = refl;
+}
