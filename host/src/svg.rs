@@ -1,0 +1,79 @@
+//! Pieces of an SVG.
+use crate::image::Image;
+
+/// Text as an element may have it.
+pub fn escaped(text: &str) -> String {
+    let mut safe = String::new();
+    for character in text.chars() {
+        match character {
+            '&' => safe += "&amp;",
+            '<' => safe += "&lt;",
+            '>' => safe += "&gt;",
+            '"' => safe += "&quot;",
+            _ if character.is_control() => safe.push('\u{fffd}'),
+            '\u{fffe}' | '\u{ffff}' => safe.push('\u{fffd}'),
+            _ => safe.push(character),
+        }
+    }
+    safe
+}
+
+/// A path that fills the pixels which are inside: a rectangle for each run in a row.
+pub fn runs(image: &Image, inside: impl Fn(usize, usize) -> bool) -> String {
+    let mut path = String::new();
+    for y in 0..image.height {
+        let mut x = 0;
+        while x < image.width {
+            let start = x;
+            while x < image.width && inside(x, y) {
+                x += 1;
+            }
+            match x - start {
+                0 => x += 1,
+                length => path += &format!("M{start} {y}h{length}v1h-{length}z"),
+            }
+        }
+    }
+    path
+}
+
+/// What a picture has to show.
+pub struct Bounds {
+    pub left: f64,
+    pub top: f64,
+    pub right: f64,
+    pub bottom: f64,
+}
+
+impl Bounds {
+    pub fn of(image: &Image) -> Self {
+        Bounds {
+            left: 0.0,
+            top: 0.0,
+            right: image.width as f64,
+            bottom: image.height as f64,
+        }
+    }
+
+    /// Makes room for a pixel.
+    pub fn reach(&mut self, x: f64, y: f64) {
+        self.left = self.left.min(x);
+        self.right = self.right.max(x + 1.0);
+        self.top = self.top.min(y);
+        self.bottom = self.bottom.max(y + 1.0);
+    }
+
+    /// The element's start, with a margin about the picture.
+    pub fn start(&self, zoom: f64, font: f64) -> String {
+        let margin = 10.0 / zoom;
+        let (left, top) = (self.left - margin, self.top - margin);
+        let width = self.right - left + margin;
+        let height = self.bottom - top + margin;
+        format!(
+            "<svg xmlns=\"http://www.w3.org/2000/svg\" width=\"{:.0}\" height=\"{:.0}\" \
+viewBox=\"{left:.2} {top:.2} {width:.2} {height:.2}\" font-family=\"monospace\" font-size=\"{font:.3}\">\n",
+            width * zoom,
+            height * zoom
+        )
+    }
+}

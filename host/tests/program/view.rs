@@ -1,0 +1,186 @@
+//! `host view`.
+use super::*;
+
+/// The value of an attribute in an element.
+fn value<'a>(element: &'a str, name: &str) -> &'a str {
+    let start = format!(" {name}=\"");
+    let after = element
+        .split_once(&start)
+        .unwrap_or_else(|| panic!("{name} in {element}"));
+    after.1.split('"').next().expect("it ends")
+}
+
+/// All elements with this name and start.
+fn elements<'a>(svg: &'a str, start: &str) -> Vec<&'a str> {
+    let parts = svg.split('<').filter(|part| part.starts_with(start));
+    parts.collect()
+}
+
+/// How many pixels a path of runs covers; each is within the image, and no two overlap.
+fn covered(path: &str, width: usize, height: usize) -> Vec<bool> {
+    let mut pixels = vec![false; width * height];
+    for run in path.split_terminator('z') {
+        let (place, rest) = run
+            .strip_prefix('M')
+            .expect("a run begins")
+            .split_once('h')
+            .expect("it is flat");
+        let (x, y) = place.split_once(' ').expect("it has a place");
+        let (x, y): (usize, usize) = (x.parse().expect("x"), y.parse().expect("y"));
+        let length: usize = rest
+            .split_once('v')
+            .expect("it is a row high")
+            .0
+            .parse()
+            .expect("length");
+        assert_eq!(rest, format!("{length}v1h-{length}"));
+        for pixel in &mut pixels[y * width + x..][..length] {
+            assert!(x + length <= width && !*pixel);
+            *pixel = true;
+        }
+    }
+    pixels
+}
+
+/// Every element that begins ends, in order.
+fn well_formed(svg: &str) {
+    let mut open = Vec::new();
+    for part in svg.split('<').skip(1) {
+        let (tag, text) = part.split_once('>').expect("a tag ends");
+        assert!(!text.contains('&') || text.contains("&amp;") || text.contains("&lt;"));
+        assert_eq!(tag.matches('"').count() % 2, 0, "{tag}");
+        let name = tag.split([' ', '/']).next().expect("it has a name");
+        match tag.strip_prefix('/') {
+            Some(end) => assert_eq!(open.pop(), Some(end)),
+            None if tag.ends_with('/') => (),
+            None => open.push(name),
+        }
+    }
+    assert!(open.is_empty(), "{open:?}");
+}
+
+/// Holds a picture against the judge's words.
+fn compare(name: &str, file: &[u8], svg: &str) {
+    well_formed(svg);
+    let (width, height, black) = pixels(file);
+    let paths = elements(svg, "path class=");
+    let path = |class: &str| {
+        let path = paths.iter().find(|path| value(path, "class") == class);
+        covered(value(path.expect("it is there"), "d"), width, height)
+    };
+    assert_eq!(path("pixels"), black, "{name}");
+    let (report, records, marks) = judged(file);
+    let row = width.div_ceil(64);
+    let read = |i: usize| marks[i / width * row + i % width / 64] >> (i % width % 64) & 1 != 0;
+    let read: Vec<bool> = (0..width * height).map(read).collect();
+    assert_eq!(path("read"), read, "{name}");
+    let kept: Vec<&[u32]> = records
+        .chunks_exact(40)
+        .take(report.kept as usize)
+        .collect();
+    let turned = kept.iter().filter(|record| record[26] == 1).count();
+    assert_eq!(elements(svg, "line ").len(), turned, "{name}");
+    assert_eq!(elements(svg, "circle").len(), kept.len(), "{name}");
+    assert_eq!(elements(svg, "polygon").len(), kept.len(), "{name}");
+    let shapes = elements(svg, "circle")
+        .into_iter()
+        .zip(elements(svg, "polygon"));
+    for (rank, (record, (circle, polygon))) in (1..).zip(kept.into_iter().zip(shapes)) {
+        compare_record(record, circle, polygon);
+        let label = format!(">{rank}: {}, class {};", outcome(record), record[39]);
+        assert_eq!(svg.matches(&label).count(), 2, "{name}: {label}");
+    }
+}
+
+/// Holds a record's circle and its box, corner after corner going round, against its words.
+fn compare_record(record: &[u32], circle: &str, polygon: &str) {
+    let words = ["cx", "cy", "r"].map(|name| value(circle, name).parse().ok());
+    assert_eq!(words, [0, 1, 2].map(|at| Some(record[at])));
+    let corner = |at: usize| {
+        let [x, y] = [record[at], record[at + 1]].map(f32::from_bits);
+        format!("{x:.2},{y:.2}")
+    };
+    let round = [31, 33, 37, 35].map(corner).join(" ");
+    assert_eq!(value(polygon, "points"), round);
+}
+
+/// A record's outcome in words.
+fn outcome(record: &[u32]) -> String {
+    match record[26] {
+        0 => "no turn".into(),
+        1 => format!("turned {}°", f32::from_bits(record[28])),
+        _ => "lost centre".into(),
+    }
+}
+
+/// Everything that is drawn is within the picture.
+fn within(svg: &str) {
+    let view = value(elements(svg, "svg")[0], "viewBox");
+    let view: Vec<f64> = view.split(' ').filter_map(|n| n.parse().ok()).collect();
+    let [left, top, width, height] = view[..] else {
+        panic!("{view:?}");
+    };
+    let inside = |x: f64, y: f64| {
+        assert!(left < x && x < left + width, "{x} in {view:?}");
+        assert!(top < y && y < top + height, "{y} in {view:?}");
+    };
+    for line in elements(svg, "line ") {
+        let ends =
+            ["x1", "y1", "x2", "y2"].map(|name| value(line, name).parse().expect("a number"));
+        inside(ends[0], ends[1]);
+        inside(ends[2], ends[3]);
+    }
+    for polygon in elements(svg, "polygon") {
+        for point in value(polygon, "points").split(' ') {
+            let (x, y) = point.split_once(',').expect("a point");
+            inside(x.parse().expect("x"), y.parse().expect("y"));
+        }
+    }
+}
+
+#[test]
+fn pictures_of_every_family() {
+    let folder = Folder::new("view");
+    let mut crops = of_each_family(8);
+    crops.push(("parcel".into(), parcel()));
+    crops.push(("white".into(), white()));
+    for (name, file) in crops {
+        folder.write(&name, &file);
+        let ran = folder.host(&["view", &name]);
+        assert_eq!((ran.code, ran.err.as_str()), (Some(0), ""), "{name}");
+        compare(&name, &file, &ran.text());
+        within(&ran.text());
+    }
+}
+
+/// The parcel's symbol stands on its head: the arrow points down and to the right.
+#[test]
+fn an_arrow_to_the_symbols_top() {
+    let folder = Folder::new("view-arrow");
+    folder.write("parcel", &parcel());
+    let ran = folder.host(&["view", "parcel", "-o", "svg"]);
+    assert_eq!((ran.code, ran.out.len()), (Some(0), 0));
+    let svg = String::from_utf8(folder.read("svg")).expect("it is text");
+    let line = elements(&svg, "line ")[0];
+    let ends = ["x1", "y1", "x2", "y2"].map(|name| value(line, name));
+    assert_eq!(ends, ["92", "91", "119.04", "128.21"]);
+}
+
+#[test]
+fn a_name_with_marks_of_its_own() {
+    let folder = Folder::new("view-name");
+    folder.write("a<b>&\"c\"\n.crop", &parcel());
+    let ran = folder.host(&["view", "a<b>&\"c\"\n.crop"]);
+    let svg = ran.text();
+    assert!(svg.contains("<title>a&lt;b&gt;&amp;&quot;c&quot;\u{fffd}.crop</title>"));
+    compare("named", &parcel(), &svg);
+}
+
+#[test]
+fn a_refused_crop() {
+    let folder = Folder::new("view-refused");
+    let ran = folder.host_reading(&["view", "-"], &[0x10, 0x20, 0x02, 0x10]);
+    let complaint = "host: -: refused: 2 width or height outside 33 to 2,048\n";
+    assert_eq!((ran.code, ran.out.len()), (Some(1), 0));
+    assert_eq!(ran.err, complaint);
+}
