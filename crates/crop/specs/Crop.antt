@@ -79,7 +79,7 @@ tooLarge w h = ltb 8000 (imageWords w h)
 abbrev pub misfit : ℕ → ℕ → Bool
 misfit n needed = not (eqb n needed)
 
--- 5: a bit is 1 between column w and the end of its row, for some row below h
+-- 5: a bit of row y is 1 between column w and the end of the row; and so for some row below h
 unfoldable pub rowPadded : (ℕ → ℕ → Bool) → ℕ → ℕ → ℕ → Bool
 rowPadded bit w end y = anyBelow (λ k. bit (w + k) y) (end - w)
 

@@ -13,7 +13,7 @@ pi = ofBits binary64 0x4009_21fb_5444_2d18
 abbrev pub one : Float
 one = ofBits binary64 0x3ff0_0000_0000_0000
 
--- `ideal_symbol_side`: the square root of the circle's area by `circlePercent`, by one less `heightAdjust`
+-- `ideal_symbol_side`: the square root of the circle's area divided by `circlePercent`, then by 1 less `heightAdjust`
 unfoldable pub idealSide : ℕ → Float → Float → Float
 idealSide radius heightAdjust circlePercent =
     let circle = mul binary64 pi (ofInt binary64 (pos (radius * radius))) in

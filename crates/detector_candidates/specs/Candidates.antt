@@ -29,7 +29,7 @@ nothing column = record { passed = false; ended = true; column = column; candida
 unfoldable pub passed : ℕ → Bullseye → List ℕ → Searched
 passed row eye vertical = record { passed = true; ended = false; column = eye .center + eye .radius; candidate = candidateOf row eye vertical }
 
--- a window and no bull's-eye: the next search starts a quarter of the radius right of the centre less the radius, which is the window's first column, or
+-- a window and no bull's-eye: the next search starts a quarter of the radius, rounded down, right of the centre less the radius, which is the window's first column, or
 -- for an odd sum of runs the one before it. If this search started there, the row ends.
 unfoldable pub failed : ℕ → Bullseye → Searched
 failed column eye =

@@ -21,7 +21,7 @@ infixl 7 _⊗_
 abbrev _⊗_ : Float → Float → Float
 x ⊗ y = mul binary32 x y
 
--- x squared and y squared
+-- x squared plus y squared
 abbrev squaredLength : Point → Float
 squaredLength p = p .x ⊗ p .x ⊕ p .y ⊗ p .y
 

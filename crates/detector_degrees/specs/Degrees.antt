@@ -1,5 +1,5 @@
 -- The loop over degrees in `attempt_rotation_box` of detector.rs: six groups of three points, turned about the centre. At a degree the points are looked at one
--- after another; one of the other colour ends it there, and one whose area is not inside the image ends all degrees. Assumes nothing.
+-- after another; one of the other colour ends it there, and one whose area passes the last column or row ends all degrees. Assumes nothing.
 use Prim.Native.Nat.{ℕ, zero, suc, _+_, _*_, _/_, _%_}
 use mathlib.Core.Bool.{Bool, not, cond}
 use mathlib.Core.List.{List, []}

@@ -8,7 +8,7 @@ ghost use Rattle.reads.specs.Runs.{Ran};
 ghost use Rattle.sines.specs.Sines.{sines};
 ghost use Rattle.detector_degrees.specs.Degrees.{rightColour, lookAt, testDegree, tryDegrees};
 
-// What a degree's test answers. A point outside the image ends the scale.
+// What a degree's test answers. A point whose area passes the last column or row ends the scale.
 pub enum Degree {
     Found,
     WrongColour,
@@ -103,7 +103,7 @@ pub fn test_degree(
     Degree::Found
 }
 
-// The degrees 0, 2, .. 348 in order. A point outside the image ends them.
+// The degrees 0, 2, .. 348 in order. A point whose area passes the last column or row ends them.
 pub fn try_degrees(
     words: &[u64],
     marks: &mut [u64],

@@ -8,7 +8,7 @@ use Rattle.detector_kept.specs.Spread.{spread}
 use Rattle.detector_kept.specs.Retain.{retain}
 use Rattle.detector_rank.specs.Rank.{withVariance, rank, Small}
 
--- The sweep left its candidates in the first records.
+-- The first `found` records are candidates: they fit the buffer, and their words are small.
 pub record Candidates (found : ℕ) (words : List ℕ) : Type 0 where
   pub few : found ≤ 1024
   pub held : 40 * found ≤ length words

@@ -1,4 +1,4 @@
--- The mean and the standard deviation of the candidates' centres, as `calculate_center_point_std_dev` of detector.rs has them in `f64`. Definitions only. Assumes nothing.
+-- The mean and the standard deviation of the candidates' centres, as `calculate_center_point_std_dev` of detector.rs has them in `f64`, with a square as a product. Definitions only. Assumes nothing.
 use Prim.Native.Nat.{ℕ, _+_}
 use mathlib.Core.List.{List, [], _∷_, map}
 use lib.IntN.{pos}

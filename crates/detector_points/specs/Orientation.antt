@@ -9,7 +9,7 @@ use Rattle.detector_boundary.specs.declared.Boundary.{Boundary}
 abbrev pub point : ℕ → ℕ → PointU
 point x y = record { x = x; y = y }
 
--- a cell of the symbol; cells
+-- whether a point is a cell of the symbol, of 30 columns and 33 rows; and whether all of a list are
 abbrev pub isCell : PointU → Bool
 isCell p = ltb (p .x) 30 && ltb (p .y) 33
 

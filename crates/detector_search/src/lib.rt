@@ -109,7 +109,7 @@ fn counted(answer: u32, found: usize, kept: usize) -> Counts
     }
 }
 
-// The search of an accepted image: the records of the kept candidates into the buffer, with their boxes and turns.
+// The search of an accepted image, whose marks the caller has cleared: the records of the kept candidates into the buffer, with their boxes and turns.
 pub fn search(
     words: &[u64],
     marks: &mut [u64],

@@ -40,13 +40,13 @@ unfoldable pub further : Float → Float → ℕ → Float
 unfolding ofInt add sub abs
 further expected acc n = add binary32 acc (abs (sub binary32 expected (real n)))
 
--- `total_variance_even` and `_odd`, over the first i row runs
+-- `total_variance_even` and `_odd`, over those of the first i row runs that t takes
 unfoldable pub varianceTo : List ℕ → List ℕ → Float → ℕ → Float
 unfolding further ofBits
 varianceTo t h expected zero = ofBits binary32 0
 varianceTo t h expected (suc i) = let d = varianceTo t h expected i in cond (takes t i) (further expected d (getD h i 0)) d
 
--- the area of a circle as wide as the run n
+-- the area of a circle whose radius is half the run n, rounded down
 unfoldable pub expectedArea : ℕ → Float
 unfolding ofBits ofInt mul
 expectedArea n = mul binary32 (real (n / 2 * (n / 2))) (ofBits binary32 0x4049_0fdb)

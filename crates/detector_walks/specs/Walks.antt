@@ -27,7 +27,7 @@ firstColumn center left = cond left (center .x) (center .x + 1)
 abbrev pub reachOf : ℤ → ℕ
 reachOf u = cond (negative u) 4096 2048
 
--- a walk to the right ends within so many steps
+-- where the sine is not 0, a walk to the right ends within so many steps (`before-end`, WalksLaws.antt)
 unfoldable pub stepsOf : ℤ → ℕ
 stepsOf u = reachOf u * 2 ^ 29 / natAbs u + 1
 

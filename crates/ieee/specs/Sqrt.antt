@@ -19,7 +19,7 @@ unfoldable pub isqrt : ℕ → ℕ
 unfolding rootBy size
 isqrt n = rootBy (size n) n
 
--- The value of f nearest to √n units, a unit being f's smallest value, 2 ^ -low. With w the whole part of √n, it lies at w, or between w and w + 1.
+-- For an n with more digits than f keeps, or one that is a square: the value of f nearest to √n units, a unit being f's smallest value, 2 ^ -low. With w the whole part of √n, it lies at w, or between w and w + 1.
 -- There w + 1/2 stands for it: where √n has more digits than f keeps, both lie on the same side of each value of f and of each half way between two.
 unfoldable pub roundRoot : Format → ℕ → Float
 unfolding isqrt round

@@ -39,7 +39,7 @@ pub record Became (n : ℕ) (before : List ℕ) (rs : List Record) (after : List
   pub records : rows n after ≡ rs
   pub rest : drop (40 * n) after ≡ drop (40 * n) before
 
--- Only the first n records of l differ from those of `before`.
+-- None but the first n records of l differ from those of `before`.
 pub record Beside (n : ℕ) (before l : List ℕ) : Type 0 where
   pub held : 40 * n ≤ length before
   pub same : length l ≡ length before
