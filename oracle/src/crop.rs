@@ -42,6 +42,12 @@ pub fn set_pixel(words: &mut [u64], width: u32, x: u32, y: u32) {
     words[y * row_words(width) + x / WORD_BITS] |= 1 << (x % WORD_BITS);
 }
 
+/// Makes a pixel of an unpacked image white.
+pub fn clear_pixel(words: &mut [u64], width: u32, x: u32, y: u32) {
+    let (x, y) = (x as usize, y as usize);
+    words[y * row_words(width) + x / WORD_BITS] &= !(1 << (x % WORD_BITS));
+}
+
 /// Width and height of a file's header, if the header is one.
 pub fn dimensions(file: &[u8]) -> Option<(u32, u32)> {
     let header = u32::from_be_bytes(*file.first_chunk::<HEADER_BYTES>()?);

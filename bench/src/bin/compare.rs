@@ -10,7 +10,7 @@ use std::fmt::Debug;
 use oracle::generate::{self, Crop, Random};
 use oracle::harness::class;
 use oracle::harness::steps::{self, Boxed, Candidate, Image};
-use oracle::{MOST_CANDIDATES, RECORD_WORDS};
+use oracle::{MOST_CANDIDATES, RECORD_WORDS, options};
 
 /// Inputs of each step that reads no image, for each crop.
 const PURE_INPUTS: u32 = 4;
@@ -580,19 +580,8 @@ fn round(seed: u64, tally: &mut Tally) {
 }
 
 fn main() {
-    let (mut seed, mut count) = (1, 10_000);
-    let mut arguments = std::env::args().skip(1);
-    while let Some(word) = arguments.next() {
-        let number = arguments.next().and_then(|n| n.parse().ok());
-        match (word.as_str(), number) {
-            ("--seed", Some(n)) => seed = n,
-            ("--count", Some(n)) => count = n,
-            _ => {
-                eprintln!("usage: compare [--seed S] [--count N]");
-                std::process::exit(2);
-            }
-        }
-    }
+    let [seed, count] = options::numbers(["--seed", "--count"]);
+    let (seed, count) = (seed.unwrap_or(1), count.unwrap_or(10_000));
     let mut tally = Tally::default();
     for at in seed..seed + count {
         round(at, &mut tally);

@@ -10,21 +10,8 @@ fn main() {
 
 #[cfg(source)]
 fn main() {
-    let mut seed = 1;
-    let mut count = 10_000;
-    let mut arguments = std::env::args().skip(1);
-    while let Some(word) = arguments.next() {
-        let number = arguments.next().and_then(|n| n.parse().ok());
-        match (word.as_str(), number) {
-            ("--seed", Some(n)) => seed = n,
-            ("--count", Some(n)) => count = n,
-            _ => {
-                eprintln!("usage: compare [--seed S] [--count N]");
-                std::process::exit(2);
-            }
-        }
-    }
-    both::run(seed, count);
+    let [seed, count] = oracle::options::numbers(["--seed", "--count"]);
+    both::run(seed.unwrap_or(1), count.unwrap_or(10_000));
 }
 
 #[cfg(source)]

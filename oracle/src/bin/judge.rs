@@ -38,8 +38,7 @@ mod judge {
 
 #[cfg(source)]
 mod judge {
-    use oracle::{RECORD_WORDS, Report, crop, harness};
-    use std::fmt::{LowerHex, Write as _};
+    use oracle::{RECORD_WORDS, crop, harness, lines};
     use std::io::{Read, Write, stdin, stdout};
     use std::process::ExitCode;
 
@@ -53,14 +52,14 @@ mod judge {
             eprintln!("judge: {error}");
             return ExitCode::FAILURE;
         }
-        match stdout().write_all(lines(&file, full).as_bytes()) {
+        match stdout().write_all(printed(&file, full).as_bytes()) {
             Ok(()) => ExitCode::SUCCESS,
             Err(_) => ExitCode::FAILURE,
         }
     }
 
     /// All that is printed for a file.
-    fn lines(file: &[u8], full: bool) -> String {
+    fn printed(file: &[u8], full: bool) -> String {
         let length = match harness::check(file) {
             0 => {
                 crop::dimensions(file).map_or(0, |(width, height)| crop::image_words(width, height))
@@ -71,64 +70,31 @@ mod judge {
         let mut buffer = vec![0; RECORD_WORDS * RECORDS];
         let report = harness::search_file(file, &mut words, &mut buffer, &mut marks);
         let records = &buffer[..RECORD_WORDS * report.kept as usize];
-        let mut text = first_line(report);
-        for record in records.chunks_exact(RECORD_WORDS) {
-            text += &record_line(record);
-        }
+        let mut text = lines::of_report(report, records);
         if full {
             for record in records.chunks_exact(RECORD_WORDS) {
-                text += &hex_line(record, 8);
+                text += &lines::hex(record, 8);
             }
-            text += &hex_line(&marks, 16);
+            text += &lines::hex(&marks, 16);
         }
         text
     }
 
-    /// Answer and counts.
-    fn first_line(report: Report) -> String {
-        let Report {
-            answer,
-            found,
-            kept,
-            marked,
-        } = report;
-        format!("answer {answer} found {found} kept {kept} marked {marked}\n")
-    }
-
-    /// Centre, radius, outcome, scale, rotation and class in decimal, variance and corners in hex.
-    fn record_line(record: &[u32]) -> String {
-        let rotation = f32::from_bits(record[28]);
-        let mut line = String::new();
-        for word in [record[0], record[1], record[2], record[26], record[27]] {
-            let _ = write!(line, "{word} ");
-        }
-        let _ = write!(line, "{rotation} {} {:08x} ", record[39], record[25]);
-        line + &hex_line(&record[31..39], 8)
-    }
-
-    /// Words in hex with so many digits, parted by spaces.
-    fn hex_line<T: LowerHex>(words: &[T], digits: usize) -> String {
-        let words: Vec<String> = (words.iter())
-            .map(|word| format!("{word:0digits$x}"))
-            .collect();
-        words.join(" ") + "\n"
-    }
-
     #[cfg(test)]
     mod tests {
-        use super::lines;
+        use super::printed;
 
         #[test]
         fn sample_line() {
             let mut file = vec![0x10, 0x21, 0x02, 0x10];
             file.resize(4 + 165, 0);
-            let text = lines(&file, false);
+            let text = printed(&file, false);
             assert_eq!(text, "answer 8 found 0 kept 0 marked 242\n");
         }
 
         #[test]
         fn refused_file() {
-            assert_eq!(lines(&[], false), "answer 1 found 0 kept 0 marked 0\n");
+            assert_eq!(printed(&[], false), "answer 1 found 0 kept 0 marked 0\n");
         }
     }
 }
