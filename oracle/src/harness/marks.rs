@@ -26,6 +26,16 @@ impl Kept {
         }
     }
 
+    /// Clears the log.
+    pub fn reset(&self) {
+        self.0.iter().for_each(|mark| mark.set(0));
+    }
+
+    /// How many bits are marked.
+    pub fn count(&self) -> u32 {
+        self.0.iter().map(|mark| mark.get().count_ones()).sum()
+    }
+
     /// Writes the log to as many words.
     pub fn write_to(&self, marks: &mut [u64]) {
         for (mark, cell) in marks.iter_mut().zip(&self.0) {
@@ -54,6 +64,12 @@ impl Off {
 
     #[inline(always)]
     pub fn set(&self, _: usize, _: u32) {}
+
+    pub fn reset(&self) {}
+
+    pub fn count(&self) -> u32 {
+        0
+    }
 
     pub fn write_to(&self, _: &mut [u64]) {}
 }

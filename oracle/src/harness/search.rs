@@ -12,9 +12,18 @@ pub fn search(
     records: &mut [u32],
     marks: &mut [u64],
 ) -> Report {
-    let capacity = capacity(records);
     let image = BitMatrix::of(words, width, height);
-    let sweep = find_concentric_circles(&image, capacity);
+    let report = search_image(&image, records);
+    marks.fill(0);
+    image.marks().write_to(marks);
+    report
+}
+
+/// The same of a prepared image, whose log is cleared first and counted at the end.
+pub(super) fn search_image(image: &BitMatrix, records: &mut [u32]) -> Report {
+    image.marks().reset();
+    let capacity = capacity(records);
+    let sweep = find_concentric_circles(image, capacity);
     let found = sweep.as_ref().map_or(0, Vec::len);
     let full = found > capacity;
     let mut kept = if full {
@@ -25,10 +34,8 @@ pub fn search(
     let whole = &mut records[..RECORD_WORDS * capacity];
     whole.fill(0);
     for (circle, record) in kept.iter_mut().zip(whole.chunks_exact_mut(RECORD_WORDS)) {
-        boxed(&image, circle).write_to(record);
+        boxed(image, circle).write_to(record);
     }
-    marks.fill(0);
-    image.marks().write_to(marks);
     Report {
         answer: match (full, kept.is_empty()) {
             (true, _) => 7,
@@ -37,7 +44,7 @@ pub fn search(
         },
         found: found as u32,
         kept: kept.len() as u32,
-        marked: marks.iter().map(|word| word.count_ones()).sum(),
+        marked: image.marks().count(),
     }
 }
 

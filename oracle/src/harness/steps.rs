@@ -1,9 +1,9 @@
 // The source's steps one by one, on plain values. A step that reads an image also gives the marks.
 
 use super::super::super::common::BitMatrix;
-use super::super::super::{Point, Record, point};
+use super::super::super::{Point, Record, Report, point};
 use super::super::Trace;
-use super::search::boxed;
+use super::search::{boxed, search_image};
 use super::{Circle, detect, find_concentric_circles};
 
 /// An unpacked image.
@@ -67,6 +67,12 @@ impl Prepared {
             count += u32::from(self.0.get(column, row));
         }
         count
+    }
+
+    /// The whole search. The log is cleared first and counted at the end; without a log nothing of this is done.
+    #[inline(never)]
+    pub fn search(&self, records: &mut [u32]) -> Report {
+        search_image(&self.0, records)
     }
 
     /// How many candidates the sweep finds.

@@ -1,0 +1,138 @@
+//! The sets of crops that are timed.
+
+use oracle::generate::{self, Crop, Random};
+use oracle::harness::steps::Image;
+use oracle::{RECORD_WORDS, crop, vectors};
+
+/// Records of a buffer, where a set needs no other number.
+const RECORDS: usize = 100;
+
+/// Crops of a generated family.
+const HANDFUL: usize = 16;
+
+pub struct Set {
+    pub name: &'static str,
+    pub crops: Vec<Crop>,
+}
+
+impl Set {
+    fn of(name: &'static str, crops: Vec<Crop>) -> Self {
+        Self { name, crops }
+    }
+
+    fn one(name: &'static str, crop: Crop) -> Self {
+        Self::of(name, vec![crop])
+    }
+
+    /// The size of the one crop, or how many there are and how large on average.
+    pub fn size(&self) -> String {
+        if let [crop] = self.crops.as_slice() {
+            return format!("{} × {}", crop.width, crop.height);
+        }
+        let pixels = |crop: &Crop| f64::from(crop.width * crop.height);
+        let side = (self.crops.iter().map(pixels).sum::<f64>() / self.crops.len() as f64).sqrt();
+        format!("{} of {side:.0}² px", self.crops.len())
+    }
+}
+
+pub fn image(crop: &Crop) -> Image<'_> {
+    Image {
+        words: &crop.words,
+        width: crop.width,
+        height: crop.height,
+    }
+}
+
+/// An image, pixel by pixel.
+pub fn painted(width: u32, height: u32, black: impl Fn(u32, u32) -> bool) -> Crop {
+    let mut words = vec![0; crop::image_words(width, height)];
+    for y in 0..height {
+        for x in (0..width).filter(|x| black(*x, y)) {
+            crop::set_pixel(&mut words, width, x, y);
+        }
+    }
+    Crop {
+        family: "painted",
+        width,
+        height,
+        words,
+        capacity_words: RECORDS * RECORD_WORDS,
+    }
+}
+
+/// Every bit by chance; a width without padding.
+pub fn noise(width: u32, height: u32) -> Crop {
+    assert_eq!(width % 64, 0, "no padding");
+    let mut random = Random::new(1);
+    let mut crop = painted(width, height, |_, _| false);
+    crop.words.fill_with(|| random.next());
+    crop
+}
+
+/// The images of Zint's symbols among the stored vectors.
+pub fn zint() -> Vec<Crop> {
+    let pack = include_bytes!("../../vectors/vectors.bin");
+    let image = |vector: vectors::Vector| {
+        let (width, height) = crop::dimensions(&vector.file).expect("a whole file");
+        let mut unpacked = painted(width, height, |_, _| false);
+        crop::unpack(&vector.file, &mut unpacked.words);
+        unpacked
+    };
+    (vectors::read(pack).into_iter())
+        .filter(|vector| vector.name.starts_with("zint"))
+        .map(image)
+        .collect()
+}
+
+/// The first crops of a family that are as wide, with room for their candidates.
+fn family(name: &'static str, least_width: u32) -> Vec<Crop> {
+    (0..)
+        .map(|seed| generate::family(name, seed))
+        .filter(|crop| crop.width >= least_width)
+        .map(|crop| with_room(crop, RECORDS))
+        .take(HANDFUL)
+        .collect()
+}
+
+pub fn with_room(crop: Crop, records: usize) -> Crop {
+    Crop {
+        capacity_words: records * RECORD_WORDS,
+        ..crop
+    }
+}
+
+/// Square eyes of single-pixel rings, fourteen pixels apart, twenty by twenty.
+fn grid() -> Crop {
+    let away = |place: u32| (place % 14).min(14 - place % 14);
+    let eyes = painted(295, 295, |x, y| {
+        let ring = away(x).max(away(y));
+        let inside = (8..287).contains(&x) && (8..287).contains(&y);
+        inside && ring % 2 == 1 && ring < 6
+    });
+    with_room(eyes, 400)
+}
+
+/// Every window of eleven pixels is a candidate, so that the records are soon full.
+fn checkerboard() -> Crop {
+    with_room(painted(2048, 250, |x, y| (x + y) % 2 == 1), 1024)
+}
+
+pub fn all() -> Vec<Set> {
+    let white = |_, _| false;
+    let black = |_, _| true;
+    vec![
+        Set::of("noise", family("noise", 0)),
+        Set::of("bull's-eyes", family("eyes", 0)),
+        Set::of("symbols", family("symbols", 0)),
+        Set::of("Zint's symbols", zint()),
+        Set::of("large symbols", family("symbols", 400)),
+        Set::one("blank, wide", painted(2048, 250, white)),
+        Set::one("black, wide", painted(2048, 250, black)),
+        Set::one("noise, wide", noise(2048, 250)),
+        Set::one("blank, tall", painted(192, 2048, white)),
+        Set::one("black, tall", painted(192, 2048, black)),
+        Set::one("noise, tall", noise(192, 2048)),
+        Set::one("grid of 400 eyes", grid()),
+        Set::one("checkerboard", checkerboard()),
+    ]
+}
