@@ -11,7 +11,7 @@ refused-requires : tie.Need-refused-requires
 refused-requires c κs = search needs
 
 returns : tie.Need-returns
-returns c = search file-refused
+returns c = file-refused _ _ _ _ (c .before .before .file-refusal .ensures) (c .before .if1 .taken) (c .refused .ensures)
 
 width-requires : tie.Need-width-requires
 width-requires c κs = search header-in

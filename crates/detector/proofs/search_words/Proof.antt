@@ -11,7 +11,7 @@ refused-requires : tie.Need-refused-requires
 refused-requires c κs = search needs
 
 returns : tie.Need-returns
-returns c = search words-refused
+returns c = words-refused _ _ _ _ _ (c .before .before .words-refusal .ensures) (c .before .if1 .taken) (c .refused .ensures)
 
 search-accepted-requires : tie.Need-search-accepted-requires
 search-accepted-requires c κs = search words-fit
