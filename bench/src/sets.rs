@@ -71,7 +71,7 @@ pub fn noise(width: u32, height: u32) -> Crop {
 
 /// The images of Zint's symbols among the stored vectors.
 pub fn zint() -> Vec<Crop> {
-    let pack = include_bytes!("../../vectors/vectors.bin");
+    let pack = include_bytes!("../../crates/replay/stdin");
     let image = |vector: vectors::Vector| {
         let (width, height) = crop::dimensions(&vector.file).expect("a whole file");
         let mut unpacked = painted(width, height, |_, _| false);

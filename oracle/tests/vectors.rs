@@ -5,7 +5,7 @@ use oracle::second;
 use oracle::vectors::{self, SearchFile, Vector};
 
 fn stored() -> Vec<Vector> {
-    let path = concat!(env!("CARGO_MANIFEST_DIR"), "/../vectors/vectors.bin");
+    let path = concat!(env!("CARGO_MANIFEST_DIR"), "/../crates/replay/stdin");
     vectors::read(&std::fs::read(path).expect("the stored vectors"))
 }
 

@@ -120,7 +120,7 @@ mod second;
 mod vectors;
 
 fn main() {
-    let pack = std::fs::read("../vectors/vectors.bin").unwrap();
+    let pack = std::fs::read("../crates/replay/stdin").unwrap();
     let notices = |v: &vectors::Vector| {
         std::panic::catch_unwind(|| v.replay(second::search_file)).map_or(true, |r| r.is_err())
     };

@@ -1,0 +1,24 @@
+-- `replay::pack::mark_words` meets its contract. Assumes nothing.
+use mathlib.Core.Path.{sym, _∙_}
+use Rattle.crop.specs.Chain.{chain-here, chain-next}
+use Rattle.replay.specs.Pack.{markWords}
+use borrow.Author.Needs.{needs}
+use Rattle.replay.proofs.pack.mark_words.Statement.{statement}
+use Rattle.replay.proofs.pack.mark_words.Tie as tie
+
+is-accepted-requires : tie.Need-is-accepted-requires
+is-accepted-requires c κs = search needs
+
+cast-result : tie.Need-cast-result
+cast-result c = search needs
+
+returns : tie.Need-returns
+unfolding markWords
+returns c = (chain-here _ _ (sym (c .before .before .is-accepted .ensures) ∙ c .before .if1 .taken) (search needs), search needs)
+
+returns-2 : tie.Need-returns-2
+unfolding markWords
+returns-2 c = (chain-next _ _ (sym (c .before .is-accepted .ensures) ∙ c .if1 .left) (search needs), search needs)
+
+pub mark-words-spec : {M : Type 1} → statement M
+mark-words-spec = tie.close (tie.spec is-accepted-requires cast-result returns returns-2)

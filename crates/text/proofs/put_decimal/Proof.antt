@@ -1,0 +1,42 @@
+-- `text::put_decimal` meets its contract: the library's fewest digits are the definition's. Assumes nothing.
+use native.Mathlib.Omega.{arith}
+use borrow.Author.Needs.{needs}
+use Rattle.text.specs.TextLaws.{decimal-text, decimal-places, puts-as}
+use Rattle.text.proofs.put_decimal.Statement.{statement}
+use Rattle.text.proofs.put_decimal.Tie as tie
+
+decimal-requires : tie.Need-decimal-requires
+decimal-requires c κs = search needs
+
+array-share-prefix-digits : tie.Need-array-share-prefix-digits
+array-share-prefix-digits c = search needs
+
+slice-aggregate-put : tie.Need-slice-aggregate-put
+slice-aggregate-put c = search needs
+
+put-requires : tie.Need-put-requires
+put-requires c κs =
+    let made = c .before .before .decimal .ensures in
+    omega (arith, made .0, decimal-places (c .before .before .before .before .before .args .n) (omega arith) (made .1 .0))
+
+same-length : tie.Need-same-length
+same-length c = search needs
+
+returns : tie.Need-returns
+returns c =
+    let made = c .before .before .before .before .before .decimal .ensures in
+    let n = c .before .before .before .before .before .before .before .before .args .n in (
+      puts-as (decimal-text n (omega arith) (made .1 .0) (made .1 .1)) (c .before .before .put .ensures),
+      omega (arith, c .before .before .put .ensures .end, made .0, decimal-places n (omega arith) (made .1 .0)),
+    )
+
+pub put-decimal-spec : {M : Type 1} → statement M
+put-decimal-spec =
+    tie.close
+    (tie.spec
+    decimal-requires
+    array-share-prefix-digits
+    slice-aggregate-put
+    put-requires
+    same-length
+    returns)
