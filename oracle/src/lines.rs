@@ -2,7 +2,23 @@
 
 use std::fmt::{LowerHex, Write};
 
-use crate::{RECORD_WORDS, Report};
+use crate::vectors::{SearchFile, words_of};
+use crate::{RECORD_WORDS, Report, crop};
+
+/// Records that the program holds.
+pub const RECORDS: usize = 400;
+
+/// What the program prints for a file, by this search of it.
+pub fn of_file(file: &[u8], search: SearchFile) -> String {
+    let length = match crop::check_file(file) {
+        0 => words_of(file),
+        _ => 0,
+    };
+    let (mut words, mut marks) = (vec![0; length], vec![0; length]);
+    let mut records = vec![0; RECORD_WORDS * RECORDS];
+    let report = search(file, &mut words, &mut records, &mut marks);
+    of_report(report, &records)
+}
 
 /// Answer and counts, then a line for each kept record.
 pub fn of_report(report: Report, records: &[u32]) -> String {

@@ -42,9 +42,6 @@ mod judge {
     use std::io::{Read, Write, stdin, stdout};
     use std::process::ExitCode;
 
-    /// Records that the program holds.
-    const RECORDS: usize = 400;
-
     /// Searches standard input and prints.
     pub fn run(full: bool) -> ExitCode {
         let mut file = Vec::new();
@@ -67,7 +64,7 @@ mod judge {
             _ => 0,
         };
         let (mut words, mut marks) = (vec![0; length], vec![0; length]);
-        let mut buffer = vec![0; RECORD_WORDS * RECORDS];
+        let mut buffer = vec![0; RECORD_WORDS * lines::RECORDS];
         let report = harness::search_file(file, &mut words, &mut buffer, &mut marks);
         let records = &buffer[..RECORD_WORDS * report.kept as usize];
         let mut text = lines::of_report(report, records);

@@ -15,11 +15,8 @@ use std::thread;
 use std::time::Duration;
 
 use oracle::generate::{self, Random};
-use oracle::{JUDGE, RECORD_WORDS, SECOND, crop, lines};
+use oracle::{JUDGE, SECOND, lines};
 use trials::run::Plan;
-
-/// Records that the program holds.
-const RECORDS: usize = 400;
 
 /// How long the program may take.
 const PATIENCE: Duration = Duration::from_secs(20);
@@ -71,15 +68,7 @@ fn expected(file: &[u8], endless: bool) -> String {
     if endless {
         file.resize(file.len().max(host::LONGEST) + 1, 0);
     }
-    let length = match crop::check_file(&file) {
-        0 => crop::dimensions(&file).map_or(0, |(w, h)| crop::image_words(w, h)),
-        _ => 0,
-    };
-    let (mut words, mut marks) = (vec![0; length], vec![0; length]);
-    let mut records = vec![0; RECORD_WORDS * RECORDS];
-    let search = JUDGE.unwrap_or(SECOND).file;
-    let report = search(&file, &mut words, &mut records, &mut marks);
-    lines::of_report(report, &records)
+    lines::of_file(&file, JUDGE.unwrap_or(SECOND).file)
 }
 
 /// What the program prints when its input comes in this way.

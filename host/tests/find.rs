@@ -1,0 +1,117 @@
+//! Runs the program `find` on the stored vectors' files and on inputs at the edges, and compares what it prints with the judge's lines, or
+//! with the second reading's where there is no judge. The program is target/bin/find of the repository (`rt check find` makes it), or the
+//! one that FIND names; without it these tests are skipped.
+use std::{
+    env, fs,
+    io::Write,
+    os::{fd::OwnedFd, unix::net::UnixDatagram},
+    path::PathBuf,
+    process::{Child, Command, Stdio},
+    thread,
+};
+
+use oracle::{JUDGE, SECOND, lines, vectors};
+
+/// The program with this standard input, if it was built.
+fn started(stdin: Stdio) -> Option<Child> {
+    let usual = concat!(env!("CARGO_MANIFEST_DIR"), "/../target/bin/find");
+    let path = env::var_os("FIND").map_or(PathBuf::from(usual), PathBuf::from);
+    if !path.exists() {
+        println!("skipped: there is no {}", path.display());
+        return None;
+    }
+    let started = Command::new(path)
+        .stdin(stdin)
+        .stdout(Stdio::piped())
+        .spawn();
+    Some(started.expect("the program starts"))
+}
+
+fn printed(child: Child) -> String {
+    let output = child.wait_with_output().expect("the program ends");
+    assert!(output.status.success());
+    String::from_utf8(output.stdout).expect("it prints ASCII")
+}
+
+/// What the program prints for an input that comes through a pipe. It need not read all of it.
+fn piped(input: &[u8]) -> Option<String> {
+    let mut child = started(Stdio::piped())?;
+    let mut pipe = child.stdin.take().expect("it was asked for");
+    let input = input.to_vec();
+    let writer = thread::spawn(move || pipe.write_all(&input));
+    let text = printed(child);
+    let _ = writer.join().expect("the writer ends");
+    Some(text)
+}
+
+/// The same, a byte to a read: each is a packet, and an empty packet is the end.
+fn byte_by_byte(input: &[u8]) -> Option<String> {
+    let (ours, theirs) = UnixDatagram::pair().expect("a pair of sockets");
+    let child = started(Stdio::from(OwnedFd::from(theirs)))?;
+    for byte in input {
+        ours.send(&[*byte]).expect("the byte is sent");
+    }
+    ours.send(&[]).expect("the end is sent");
+    Some(printed(child))
+}
+
+fn expected(input: &[u8]) -> String {
+    lines::of_file(input, JUDGE.unwrap_or(SECOND).file)
+}
+
+/// Document 01's sample: 33 by 33, all white.
+fn sample() -> Vec<u8> {
+    let mut file = vec![0x10, 0x21, 0x02, 0x10];
+    file.resize(4 + 165, 0);
+    file
+}
+
+#[test]
+fn stored_vectors() {
+    let path = concat!(env!("CARGO_MANIFEST_DIR"), "/../crates/replay/stdin");
+    for vector in vectors::read(&fs::read(path).expect("the stored vectors")) {
+        let Some(text) = piped(&vector.file) else {
+            return;
+        };
+        assert_eq!(text, expected(&vector.file), "{}", vector.name);
+    }
+}
+
+#[test]
+fn the_sample() {
+    if let Some(text) = piped(&sample()) {
+        assert_eq!(text, "answer 8 found 0 kept 0 marked 242\n");
+    }
+}
+
+#[test]
+fn no_input() {
+    if let Some(text) = piped(&[]) {
+        assert_eq!(text, "answer 1 found 0 kept 0 marked 0\n");
+    }
+}
+
+#[test]
+fn a_byte_to_a_read() {
+    let path = concat!(env!("CARGO_MANIFEST_DIR"), "/../examples/parcel.crop");
+    for file in [sample(), fs::read(path).expect("the example")] {
+        if let Some(text) = byte_by_byte(&file) {
+            assert_eq!(text, expected(&file));
+        }
+    }
+}
+
+/// Longer than any legal crop, below and above what the program reads, with headers that are refused first and one that is not.
+#[test]
+fn long_inputs() {
+    let heads = [[0; 4], [0x10, 0, 0, 0], [0x18, 0, 0x80, 0]];
+    for head in heads.into_iter().chain([[0x10, 0x21, 0x02, 0x10]]) {
+        for length in [64_005, 65_535, 65_536, 65_537, 1_000_000] {
+            let mut file = head.to_vec();
+            file.resize(length, 0);
+            if let Some(text) = piped(&file) {
+                assert_eq!(text, expected(&file), "{head:?} {length}");
+            }
+        }
+    }
+}
