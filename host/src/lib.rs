@@ -97,10 +97,10 @@ pub fn search_file(
     }
 }
 
-/// What an answer says; `check` gives those up to 5.
-pub fn meaning(number: u32) -> &'static str {
-    match number {
-        0 => "accepted",
+/// What a search's answer says.
+pub fn meaning(answer: u32) -> &'static str {
+    match answer {
+        0 => "candidates are kept",
         1 => "no crop header",
         2 => "width or height outside 33 to 2,048",
         3 => "more than 8,000 words",
@@ -111,4 +111,12 @@ pub fn meaning(number: u32) -> &'static str {
         8 => "no candidate is kept",
         _ => "unknown number",
     }
+}
+
+/// What a number of `check` says: its 0 is an accepted file, of which a search answers 0, 7 or 8.
+pub fn check_meaning(number: u32) -> &'static str {
+    if number == 0 {
+        return "accepted";
+    }
+    meaning(number)
 }

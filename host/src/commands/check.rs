@@ -33,7 +33,11 @@ fn run(args: &[OsString]) -> Result<bool, Problem> {
 fn line(path: &Path, file: &[u8]) -> Said {
     let number = host::check(file);
     Said {
-        text: format!("{}: {number} {}\n", path.display(), host::meaning(number)),
+        text: format!(
+            "{}: {number} {}\n",
+            path.display(),
+            host::check_meaning(number)
+        ),
         complaint: None,
         good: number == 0,
     }
