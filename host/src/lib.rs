@@ -107,7 +107,7 @@ pub fn meaning(answer: u32) -> &'static str {
         4 => "another length than the dimensions need",
         5 => "a padding bit is 1",
         6 => "a buffer of the wrong length",
-        7 => "more candidates than the records hold",
+        7 => "more candidates than the capacity",
         8 => "no candidate is kept",
         _ => "unknown number",
     }

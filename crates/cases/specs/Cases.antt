@@ -2,9 +2,9 @@
 -- computation. Assumes nothing.
 use Prim.Native.Nat.{ℕ, _+_, _*_, _^_}
 use mathlib.Core.Bool.{true, false}
-use mathlib.Core.List.{List, [], _∷_, _++_, flatMap}
+use mathlib.Core.List.{List, [], _∷_, _++_, map, flatMap}
 use mathlib.Core.Path.{_≡_, refl}
-use lib.ListN.{replicate}
+use lib.ListN.{set, replicate}
 use lib.Ieee.{toSigned}
 use Rattle.ieee.specs.Integral.{floor}
 use Rattle.reads.specs.Reads.{_>>=_, value}
@@ -33,7 +33,7 @@ use Rattle.detector_turn.specs.Outcomes.{classOf}
 abbrev pub equal : ℕ → List ℕ
 equal run = replicate 11 run
 
--- the first window of row 6, of 33 columns and rows of one word each, where the row has six black pixels, a column apart, the first at a column
+-- the first window of row 6, of 33 columns and rows of one word each, where the row has six black pixels, one white one between two, the first at a column
 abbrev pub windowOf : ℕ → Bullseye
 windowOf first = valueOf (nextBullseye 1 33 33 6 6) (replicate 6 0 ++ 0x555 * 2 ^ first ∷ replicate 26 0)
 
@@ -52,7 +52,7 @@ raised bottom = record { left = 0; right = 60; top = bottom + 66; bottom = botto
 pub record Cases : Type 0 where
   -- eleven runs
   pub runs-all-1 : validWidths (equal 1) ≡ true
-  pub even-run-1-among-2s : validWidths (1 ∷ replicate 10 2) ≡ false
+  pub even-run-1-among-2s : map (λ k. validWidths (set (equal 2) k 1)) (0 ∷ 2 ∷ 4 ∷ 6 ∷ 8 ∷ 10 ∷ []) ≡ replicate 6 false
   pub odd-runs-3-2-2-2 : validWidths (2 ∷ 3 ∷ replicate 9 2) ≡ false
   -- width 33, runs of one pixel
   pub runs-from-15 : windowOf 15 ≡ record { found = true; center = 20; radius = 6; buckets = equal 1 }
