@@ -2,7 +2,7 @@
 use Prim.Native.Nat.{ℕ, _*_, _≤_, _<_}
 use native.Mathlib.Nat.{mul-assoc, mul-le-mul-right}
 use native.Mathlib.Omega.{arith}
-use mathlib.Core.Bool.{Bool, true, false, cond}
+use mathlib.Core.Bool.{Bool, true, false}
 use mathlib.Core.List.{List}
 use mathlib.Core.Path.{_≡_, refl, sym, ap, ap₂, _∙_}
 use borrow.Author.Tests.{eqb-true, ltb-true, ltb-false, eq-eqb, ne-eqb}
@@ -12,7 +12,7 @@ use lib.Seq.{take-all}
 use Rattle.crop.specs.Crop.{rowBytes, rowWords, imageWords, fileWords, width, height, refusal, orElse, fileRefusal}
 use Rattle.crop.specs.CropLaws.{file-accepted}
 use Rattle.crop.specs.PrefixLaws.{refusal-prefix}
-use Rattle.detector.specs.Detector.{filed, refusedRun, fileRun, FileRun}
+use Rattle.detector.specs.Detector.{filed, refusedRun, fileRun}
 use Rattle.find.specs.Find.{lentWords}
 
 -- the two ways that the words to lend are worked out

@@ -1,6 +1,6 @@
 -- Numbers and lines as text, and text put into a buffer from a place on. Definitions only. Assumes nothing.
 use Prim.Native.Nat.{ℕ, _+_, _≤_}
-use Prim.Native.Char.{Char, code}
+use Prim.Native.Char.{code}
 use Prim.Native.String as String
 use Prim.Native.String.{String}
 use mathlib.Core.Bool.{cond}
