@@ -6,7 +6,8 @@ ghost use Prim.Native.Nat.{_^_, _≤_, _<_};
 ghost use lib.ListN.{length};
 ghost use Rattle.reads.specs.Runs.{Ran};
 ghost use Rattle.sines.specs.Sines.{sines};
-ghost use Rattle.detector_degrees.specs.Degrees.{rightColour, lookAt, testDegree, tryDegrees};
+ghost use Rattle.detector_degrees.specs.Degrees.{pointOf, rightColour, tryDegrees};
+ghost use Rattle.detector_degrees.specs.Offsets.{columnPast, rowPast, Listed, lookPast, testOffsets, tryOffsets};
 
 // What a degree's test answers. A point whose area passes the last column or row ends the scale.
 pub enum Degree {
@@ -37,56 +38,98 @@ fn right_colour(k: usize, black: bool) -> bool
     black
 }
 
-// The colour about a point that is turned about the centre.
+// Point k of the eighteen.
+fn point_of(groups: [[PointU; 3]; 6], k: usize) -> PointU
+    requires { ⌜ «k» < 18 ⌝ }
+    ensures { λ r. ⌜ r ≡ pointOf groups «k» ⌝ }
+{
+    let group = groups[k / 3];
+    group[k % 3]
+}
+
+// Each point's column past the centre's. Made once, it serves all degrees.
+fn columns_past(cx: f32, groups: [[PointU; 3]; 6]) -> [f32; 18]
+    ensures { λ r. ⌜ Listed (columnPast cx groups) r ⌝ }
+{
+    let mut columns = [0.0f32; 18];
+    let mut k = 0usize;
+    while k < 18 {
+        let point = point_of(groups, k);
+        columns[k] = std::num::nearest_u32_to_f32(point.x) - cx;
+        k += 1;
+    }
+    columns
+}
+
+// Each point's row past the centre's.
+fn rows_past(cy: f32, groups: [[PointU; 3]; 6]) -> [f32; 18]
+    ensures { λ r. ⌜ Listed (rowPast cy groups) r ⌝ }
+{
+    let mut rows = [0.0f32; 18];
+    let mut k = 0usize;
+    while k < 18 {
+        let point = point_of(groups, k);
+        rows[k] = std::num::nearest_u32_to_f32(point.y) - cy;
+        k += 1;
+    }
+    rows
+}
+
+// The colour about the point that lies u columns and v rows past the centre, turned about it. The operations are those of `get_point`, in its order.
 fn look(
     words: &[u64],
     marks: &mut [u64],
     row_words: usize,
     width: u32,
     height: u32,
-    center: PointU,
-    point: PointU,
+    cx: f32,
+    cy: f32,
     sin: f32,
     cos: f32,
+    u: f32,
+    v: f32,
 ) -> Sample
     requires { ⌜ (length (now marks) ≡ length (now words)) × («row_words» < 2 ^ 32) × (width ≤ 2048) × (height ≤ 2048) ⌝ }
-    ensures { λ r. ⌜ Ran (lookAt «row_words» (length (now (words .entry))) width height center sin cos point) (now (words .entry)) (now (marks .entry)) r (now (marks .exit)) ⌝ }
+    ensures { λ r. ⌜ Ran (lookPast «row_words» (length (now (words .entry))) width height cx cy sin cos u v) (now (words .entry)) (now (marks .entry)) r (now (marks .exit)) ⌝ }
 {
-    let p = rxing_result_point::turn(center, point, sin, cos);
-    let x = ieee::saturating_f32_to_u32(p.x);
-    let y = ieee::saturating_f32_to_u32(p.y);
+    let x = ieee::abs_f32_to_u32(cos * u - sin * v + cx);
+    let y = ieee::abs_f32_to_u32(sin * u + cos * v + cy);
     bit_matrix::try_get_area(words, marks, row_words, width, height, x, y)
 }
 
 // All eighteen points have the right colour, or the first that has not, or is outside, ends it.
-pub fn test_degree(
+fn test_degree(
     words: &[u64],
     marks: &mut [u64],
     row_words: usize,
     width: u32,
     height: u32,
-    center: PointU,
-    groups: [[PointU; 3]; 6],
+    cx: f32,
+    cy: f32,
+    columns: &[f32; 18],
+    rows: &[f32; 18],
     sin: f32,
     cos: f32,
 ) -> Degree
     requires { ⌜ (length (now marks) ≡ length (now words)) × («row_words» < 2 ^ 32) × (width ≤ 2048) × (height ≤ 2048) ⌝ }
-    ensures { λ r. ⌜ Ran (testDegree «row_words» (length (now (words .entry))) width height center groups sin cos) (now (words .entry)) (now (marks .entry)) r (now (marks .exit)) ⌝ }
+    ensures { λ r. ⌜ Ran (testOffsets «row_words» (length (now (words .entry))) width height cx cy (now (columns .entry)) (now (rows .entry)) sin cos) (now (words .entry)) (now (marks .entry)) r (now (marks .exit)) ⌝ }
 {
     let mut k = 0usize;
     while k < 18 {
-        let group = groups[k / 3];
-        let point = group[k % 3];
+        let u = columns[k];
+        let v = rows[k];
         let sample = look(
             words,
             marks,
             row_words,
             width,
             height,
-            center,
-            point,
+            cx,
+            cy,
             sin,
             cos,
+            u,
+            v,
         );
         match sample {
             Sample::Outside => {
@@ -103,7 +146,55 @@ pub fn test_degree(
     Degree::Found
 }
 
-// The degrees 0, 2, .. 348 in order. A point whose area passes the last column or row ends them.
+// The degrees 0, 2, .. 348 in order, from the points' offsets. A point whose area passes the last column or row ends them.
+fn try_offsets(
+    words: &[u64],
+    marks: &mut [u64],
+    row_words: usize,
+    width: u32,
+    height: u32,
+    cx: f32,
+    cy: f32,
+    columns: &[f32; 18],
+    rows: &[f32; 18],
+    table: &[f32; 360],
+) -> Rotation
+    requires { ⌜ (length (now marks) ≡ length (now words)) × («row_words» < 2 ^ 32) × (width ≤ 2048) × (height ≤ 2048) ⌝ ∗ ⌜ now table ≡ sines ⌝ }
+    ensures { λ r. ⌜ Ran (tryOffsets «row_words» (length (now (words .entry))) width height cx cy (now (columns .entry)) (now (rows .entry))) (now (words .entry)) (now (marks .entry)) r (now (marks .exit)) ⌝ }
+{
+    let mut i = 0u32;
+    while i < 175 {
+        let degree = i * 2;
+        let s = sines::sine(table, degree);
+        let c = sines::cosine(table, degree);
+        let tested = test_degree(
+            words,
+            marks,
+            row_words,
+            width,
+            height,
+            cx,
+            cy,
+            columns,
+            rows,
+            s,
+            c,
+        );
+        match tested {
+            Degree::Found => {
+                return Rotation::Found(degree);
+            }
+            Degree::Outside => {
+                return Rotation::None;
+            }
+            Degree::WrongColour => {}
+        }
+        i += 1;
+    }
+    Rotation::None
+}
+
+// The degrees at which the points of these groups about the centre are tried.
 pub fn try_degrees(
     words: &[u64],
     marks: &mut [u64],
@@ -117,22 +208,20 @@ pub fn try_degrees(
     requires { ⌜ (length (now marks) ≡ length (now words)) × («row_words» < 2 ^ 32) × (width ≤ 2048) × (height ≤ 2048) ⌝ ∗ ⌜ now table ≡ sines ⌝ }
     ensures { λ r. ⌜ Ran (tryDegrees «row_words» (length (now (words .entry))) width height center groups) (now (words .entry)) (now (marks .entry)) r (now (marks .exit)) ⌝ }
 {
-    let mut i = 0u32;
-    while i < 175 {
-        let degree = i * 2;
-        let s = sines::sine(table, degree);
-        let c = sines::cosine(table, degree);
-        let tested = test_degree(words, marks, row_words, width, height, center, groups, s, c);
-        match tested {
-            Degree::Found => {
-                return Rotation::Found(degree);
-            }
-            Degree::Outside => {
-                return Rotation::None;
-            }
-            Degree::WrongColour => {}
-        }
-        i += 1;
-    }
-    Rotation::None
+    let cx = std::num::nearest_u32_to_f32(center.x);
+    let cy = std::num::nearest_u32_to_f32(center.y);
+    let columns = columns_past(cx, groups);
+    let rows = rows_past(cy, groups);
+    try_offsets(
+        words,
+        marks,
+        row_words,
+        width,
+        height,
+        cx,
+        cy,
+        &columns,
+        &rows,
+        table,
+    )
 }

@@ -7,78 +7,78 @@ use mathlib.Core.Path.{_≡_, sym, _∙_}
 use native.Mathlib.Omega.{arith}
 use borrow.Author.Needs.{needs}
 use borrow.Author.Tests.{not-true, not-false}
-use lib.Ieee.{Float}
-use lib.ListN.{length}
+use lib.Ieee.{Float, nan}
+use lib.ListN.{length, getD}
 use Rattle.reads.specs.Runs.{Ran, Resumes}
 use Rattle.reads.specs.RunsLaws.{ran-done, resumes-start, resumes-step, resumes-then, resumes-else, resumes-end}
 use Rattle.bit_matrix.specs.declared.Sample.{Sample}
 use Rattle.bit_matrix.specs.declared.Sample.the-variants as samples
-use Rattle.rxing_result_point.specs.declared.PointU.{PointU}
-use Rattle.detector_degrees.specs.Degrees.{pointOf, rightColour, lookAt, pointsFrom, testDegree}
+use Rattle.detector_degrees.specs.Degrees.{rightColour}
+use Rattle.detector_degrees.specs.Offsets.{lookPast, offsetsFrom, testOffsets}
 use Rattle.detector_degrees.specs.declared.Degree.the-variants.{Found, WrongColour, Outside}
 use Rattle.detector_degrees.proofs.test_degree.Statement.{statement}
 use Rattle.detector_degrees.proofs.test_degree.Tie as tie
 
-record Testing (words marks₀ : List ℕ) (rowWords width height : ℕ) (center : PointU) (groups : List (List PointU)) (sin cos : Float) (marks : List ℕ) (k : ℕ) : Type 0 where
+record Testing (words marks₀ : List ℕ) (rowWords width height : ℕ) (cx cy : Float) (columns rows : List Float) (sin cos : Float) (marks : List ℕ) (k : ℕ) : Type 0 where
   sized : length marks ≡ length words
   resumes : Resumes words
-      (pointsFrom rowWords (length words) width height center groups sin cos (18 - k) k) marks
-      (testDegree rowWords (length words) width height center groups sin cos) marks₀
+      (offsetsFrom rowWords (length words) width height cx cy columns rows sin cos (18 - k) k) marks
+      (testOffsets rowWords (length words) width height cx cy columns rows sin cos) marks₀
 
-begins : {words marks : List ℕ} {rowWords width height : ℕ} {center : PointU} {groups : List (List PointU)} {sin cos : Float} → length marks ≡ length words
-    → Testing words marks rowWords width height center groups sin cos marks 0
-unfolding testDegree
+begins : {words marks : List ℕ} {rowWords width height : ℕ} {cx cy : Float} {columns rows : List Float} {sin cos : Float} → length marks ≡ length words
+    → Testing words marks rowWords width height cx cy columns rows sin cos marks 0
+unfolding testOffsets
 begins same = record { sized = same; resumes = resumes-start }
 
-module _ {words marks₀ marks : List ℕ} {rowWords width height k : ℕ} {center : PointU} {groups : List (List PointU)} {sin cos : Float}
-    (testing : Testing words marks₀ rowWords width height center groups sin cos marks k) where
-  at-end : 18 ≤ k → Ran (testDegree rowWords (length words) width height center groups sin cos) words marks₀ Found marks
-  unfolding pointsFrom
+module _ {words marks₀ marks : List ℕ} {rowWords width height k : ℕ} {cx cy : Float} {columns rows : List Float} {sin cos : Float}
+    (testing : Testing words marks₀ rowWords width height cx cy columns rows sin cos marks k) where
+  at-end : 18 ≤ k → Ran (testOffsets rowWords (length words) width height cx cy columns rows sin cos) words marks₀ Found marks
+  unfolding offsetsFrom
   at-end h =
       let none : 18 - k ≡ 0 = omega arith in
       resumes-end (ran-done _) (rw none at (testing .resumes))
 
   module _ (h : k < 18) {sample : Sample} {after : List ℕ}
-      (ran : Ran (lookAt rowWords (length words) width height center sin cos (pointOf groups k)) words marks sample after) where
+      (ran : Ran (lookPast rowWords (length words) width height cx cy sin cos (getD columns k nan) (getD rows k nan)) words marks sample after) where
     left : 18 - k ≡ suc (18 - (k + 1))
     left = omega arith
 
-    lost : sample ≡ samples.Outside → Ran (testDegree rowWords (length words) width height center groups sin cos) words marks₀ Outside after
-    unfolding pointsFrom
+    lost : sample ≡ samples.Outside → Ran (testOffsets rowWords (length words) width height cx cy columns rows sin cos) words marks₀ Outside after
+    unfolding offsetsFrom
     lost e = resumes-end (ran-done _) (resumes-step _ (rw e at ran) (rw left at (testing .resumes)))
 
     module _ {black right : Bool} (e : sample ≡ samples.Inside black) (colour : right ≡ rightColour k black) where
-      wrong : right ≡ false → Ran (testDegree rowWords (length words) width height center groups sin cos) words marks₀ WrongColour after
-      unfolding pointsFrom
+      wrong : right ≡ false → Ran (testOffsets rowWords (length words) width height cx cy columns rows sin cos) words marks₀ WrongColour after
+      unfolding offsetsFrom
       wrong f = resumes-end (ran-done _) (resumes-else _ _ (sym colour ∙ f) (resumes-step _ (rw e at ran) (rw left at (testing .resumes))))
 
-      onward : right ≡ true → length after ≡ length marks → Testing words marks₀ rowWords width height center groups sin cos after (k + 1)
-      unfolding pointsFrom
+      onward : right ≡ true → length after ≡ length marks → Testing words marks₀ rowWords width height cx cy columns rows sin cos after (k + 1)
+      unfolding offsetsFrom
       onward t kept = record {
         sized = kept ∙ testing .sized;
         resumes = resumes-then _ _ (sym colour ∙ t) (resumes-step _ (rw e at ran) (rw left at (testing .resumes)));
       }
 
 abbrev Inv-loop : tie.InvT-loop
-Inv-loop words marks₀ row-words width height center sin cos groups k₀ marks k = Testing words marks₀ row-words width height center groups sin cos marks k
+Inv-loop words marks₀ row-words width height cx cy columns rows sin cos k₀ marks k = Testing words marks₀ row-words width height cx cy columns rows sin cos marks k
 
 abbrev μ-loop : tie.MeasureT-loop
-μ-loop words marks₀ row-words width height center sin cos groups k₀ marks k = 18 - k
+μ-loop words marks₀ row-words width height cx cy columns rows sin cos k₀ marks k = 18 - k
 
 loop-holds : tie.Need-loop-holds Inv-loop μ-loop
 loop-holds c = search begins
 
-mul-group : tie.Need-mul-group Inv-loop μ-loop
-mul-group c = search needs
+mul-u : tie.Need-mul-u Inv-loop μ-loop
+mul-u c = search needs
 
-array-copy-out-group : tie.Need-array-copy-out-group Inv-loop μ-loop
-array-copy-out-group c = search needs
+element-copy-out-u : tie.Need-element-copy-out-u Inv-loop μ-loop
+element-copy-out-u c = search needs
 
-mul-point : tie.Need-mul-point Inv-loop μ-loop
-mul-point c = search needs
+mul-v : tie.Need-mul-v Inv-loop μ-loop
+mul-v c = search needs
 
-array-copy-out-point : tie.Need-array-copy-out-point Inv-loop μ-loop
-array-copy-out-point c = search needs
+element-copy-out-v : tie.Need-element-copy-out-v Inv-loop μ-loop
+element-copy-out-v c = search needs
 
 look-requires : tie.Need-look-requires Inv-loop μ-loop
 look-requires c κs = search needs
@@ -90,7 +90,6 @@ same-length : tie.Need-same-length Inv-loop μ-loop
 same-length c = search needs
 
 returns : tie.Need-returns Inv-loop μ-loop
-unfolding pointOf
 returns c = search lost
 
 enum-known-sample : tie.Need-enum-known-sample Inv-loop μ-loop
@@ -103,7 +102,6 @@ same-length-2 : tie.Need-same-length-2 Inv-loop μ-loop
 same-length-2 c = search needs
 
 returns-2 : tie.Need-returns-2 Inv-loop μ-loop
-unfolding pointOf
 returns-2 c = search (wrong, not-true)
 
 add-k : tie.Need-add-k Inv-loop μ-loop
@@ -113,7 +111,6 @@ loop-less : tie.Need-loop-less Inv-loop μ-loop
 loop-less c = search needs
 
 loop-again : tie.Need-loop-again Inv-loop μ-loop
-unfolding pointOf
 loop-again c =
     let look = c .before .before .before .before .before .before .before in
     let turn = look .before .before .before .before in
@@ -132,10 +129,10 @@ test-degree-spec =
     Inv-loop
     μ-loop
     loop-holds
-    mul-group
-    array-copy-out-group
-    mul-point
-    array-copy-out-point
+    mul-u
+    element-copy-out-u
+    mul-v
+    element-copy-out-v
     look-requires
     enum-told
     same-length

@@ -1,140 +1,55 @@
--- `detector_degrees::try_degrees` meets its contract. The invariant is `Trying`: from the present degree, what is left of the definition ends as the whole does.
--- The measure is the degrees left. Assumes nothing.
-use Prim.Native.Nat.{ℕ, suc, _+_, _-_, _*_, _≤_, _<_}
+-- `detector_degrees::try_degrees` meets its contract: the run from the points' offsets is that of the definition, by `same-degrees`. Assumes nothing.
+use Prim.Native.Nat.{ℕ}
 use mathlib.Core.List.{List}
-use mathlib.Core.Path.{_≡_, _∙_}
-use native.Mathlib.Omega.{arith}
+use mathlib.Core.Path.{_≡_}
 use borrow.Author.Needs.{needs}
 use lib.Ieee.{Float}
-use lib.ListN.{length}
-use Rattle.reads.specs.Runs.{Ran, Resumes}
-use Rattle.reads.specs.RunsLaws.{ran-done, resumes-start, resumes-step, resumes-end}
-use Rattle.sines.specs.Sines.{sineOf, cosineOf}
+use Rattle.reads.specs.Runs.{Ran}
 use Rattle.rxing_result_point.specs.declared.PointU.{PointU}
-use Rattle.detector_degrees.specs.Degrees.{testDegree}
-use Rattle.detector_degrees.specs.declared.Degree.{Degree}
-use Rattle.detector_degrees.specs.declared.Degree.the-variants.{Found, WrongColour, Outside}
-use Rattle.detector_degrees.specs.Degrees.{degreesFrom, tryDegrees}
-use Rattle.detector_degrees.specs.declared.Rotation.the-variants as rotation
+use Rattle.rxing_result_point.specs.Points.{real}
+use Rattle.detector_degrees.specs.Degrees.{tryDegrees}
+use Rattle.detector_degrees.specs.Offsets.{columnPast, rowPast, Listed, tryOffsets}
+use Rattle.detector_degrees.specs.OffsetsLaws.{same-degrees}
+use Rattle.detector_degrees.specs.declared.Rotation.{Rotation}
 use Rattle.detector_degrees.proofs.try_degrees.Statement.{statement}
 use Rattle.detector_degrees.proofs.try_degrees.Tie as tie
 
-record Trying (words marks₀ : List ℕ) (rowWords width height : ℕ) (center : PointU) (groups : List (List PointU)) (marks : List ℕ) (i : ℕ) : Type 0 where
-  sized : length marks ≡ length words
-  resumes : Resumes words
-      (degreesFrom rowWords (length words) width height center groups (175 - i) i) marks
-      (tryDegrees rowWords (length words) width height center groups) marks₀
+tried : {words marks after : List ℕ} {found : Rotation} (rowWords size width height : ℕ) (center : PointU) (groups : List (List PointU)) {cx cy : Float} {columns rows : List Float}
+    → cx ≡ real (center .x) → cy ≡ real (center .y) → Listed (columnPast cx groups) columns → Listed (rowPast cy groups) rows
+    → Ran (tryOffsets rowWords size width height cx cy columns rows) words marks found after
+    → Ran (tryDegrees rowWords size width height center groups) words marks found after
+tried rowWords size width height center groups e f across down ran =
+    rw (same-degrees rowWords size width height center groups (rw e at across) (rw f at down)) at (rw (e, f) at ran)
 
-begins : {words marks : List ℕ} {rowWords width height : ℕ} {center : PointU} {groups : List (List PointU)} → length marks ≡ length words
-    → Trying words marks rowWords width height center groups marks 0
-unfolding tryDegrees
-begins same = record { sized = same; resumes = resumes-start }
+nearest-u32-to-f32-requires : tie.Need-nearest-u32-to-f32-requires
+nearest-u32-to-f32-requires c κs = search needs
 
-module _ {words marks₀ marks : List ℕ} {rowWords width height i : ℕ} {center : PointU} {groups : List (List PointU)}
-    (trying : Trying words marks₀ rowWords width height center groups marks i) where
-  at-end : 175 ≤ i → Ran (tryDegrees rowWords (length words) width height center groups) words marks₀ rotation.None marks
-  unfolding degreesFrom
-  at-end h =
-      let none : 175 - i ≡ 0 = omega arith in
-      resumes-end (ran-done _) (rw none at (trying .resumes))
+nearest-u32-to-f32-requires-2 : tie.Need-nearest-u32-to-f32-requires-2
+nearest-u32-to-f32-requires-2 c κs = search needs
 
-  module _ (h : i < 175) {sin cos : Float} (s : sin ≡ sineOf (i * 2)) (k : cos ≡ cosineOf (i * 2)) {degree : Degree} {after : List ℕ}
-      (ran : Ran (testDegree rowWords (length words) width height center groups sin cos) words marks degree after) where
-    left : 175 - i ≡ suc (175 - (i + 1))
-    left = omega arith
+columns-past-requires : tie.Need-columns-past-requires
+columns-past-requires c κs = search needs
 
-    found : degree ≡ Found → Ran (tryDegrees rowWords (length words) width height center groups) words marks₀ (rotation.Found (i * 2)) after
-    unfolding degreesFrom
-    found e = resumes-end (ran-done _) (resumes-step _ (rw (e, s, k) at ran) (rw left at (trying .resumes)))
+rows-past-requires : tie.Need-rows-past-requires
+rows-past-requires c κs = search needs
 
-    lost : degree ≡ Outside → Ran (tryDegrees rowWords (length words) width height center groups) words marks₀ rotation.None after
-    unfolding degreesFrom
-    lost e = resumes-end (ran-done _) (resumes-step _ (rw (e, s, k) at ran) (rw left at (trying .resumes)))
+try-offsets-requires : tie.Need-try-offsets-requires
+try-offsets-requires c κs = search needs
 
-    onward : degree ≡ WrongColour → length after ≡ length marks → Trying words marks₀ rowWords width height center groups after (i + 1)
-    unfolding degreesFrom
-    onward e kept = record {
-      sized = kept ∙ trying .sized;
-      resumes = resumes-step _ (rw (e, s, k) at ran) (rw left at (trying .resumes));
-    }
-
-abbrev Inv-loop : tie.InvT-loop
-Inv-loop words marks₀ row-words width height center groups table i₀ marks i = Trying words marks₀ row-words width height center groups marks i
-
-abbrev μ-loop : tie.MeasureT-loop
-μ-loop words marks₀ row-words width height center groups table i₀ marks i = 175 - i
-
-loop-holds : tie.Need-loop-holds Inv-loop μ-loop
-loop-holds c = search begins
-
-mul-degree : tie.Need-mul-degree Inv-loop μ-loop
-mul-degree c = search needs
-
-sine-requires : tie.Need-sine-requires Inv-loop μ-loop
-sine-requires c κs = search needs
-
-cosine-requires : tie.Need-cosine-requires Inv-loop μ-loop
-cosine-requires c κs = search needs
-
-test-degree-requires : tie.Need-test-degree-requires Inv-loop μ-loop
-test-degree-requires c κs = search needs
-
-enum-told : tie.Need-enum-told Inv-loop μ-loop
-enum-told c = search needs
-
-same-length : tie.Need-same-length Inv-loop μ-loop
+same-length : tie.Need-same-length
 same-length c = search needs
 
-returns : tie.Need-returns Inv-loop μ-loop
-returns c = search found
-
-enum-told-2 : tie.Need-enum-told-2 Inv-loop μ-loop
-enum-told-2 c = search needs
-
-same-length-2 : tie.Need-same-length-2 Inv-loop μ-loop
-same-length-2 c = search needs
-
-returns-2 : tie.Need-returns-2 Inv-loop μ-loop
-returns-2 c = search lost
-
-enum-told-3 : tie.Need-enum-told-3 Inv-loop μ-loop
-enum-told-3 c = search needs
-
-add-i : tie.Need-add-i Inv-loop μ-loop
-add-i c = search needs
-
-loop-less : tie.Need-loop-less Inv-loop μ-loop
-loop-less c = search needs
-
-loop-again : tie.Need-loop-again Inv-loop μ-loop
-loop-again c = search onward
-
-same-length-3 : tie.Need-same-length-3 Inv-loop μ-loop
-same-length-3 c = search needs
-
-returns-3 : tie.Need-returns-3 Inv-loop μ-loop
-returns-3 c = search at-end
+returns : tie.Need-returns
+returns c = search tried
 
 pub try-degrees-spec : {M : Type 1} → statement M
 try-degrees-spec =
     tie.close
     (tie.spec
-    Inv-loop
-    μ-loop
-    loop-holds
-    mul-degree
-    sine-requires
-    cosine-requires
-    test-degree-requires
-    enum-told
+    nearest-u32-to-f32-requires
+    nearest-u32-to-f32-requires-2
+    columns-past-requires
+    rows-past-requires
+    try-offsets-requires
     same-length
-    returns
-    enum-told-2
-    same-length-2
-    returns-2
-    enum-told-3
-    add-i
-    loop-less
-    loop-again
-    same-length-3
-    returns-3)
+    returns)

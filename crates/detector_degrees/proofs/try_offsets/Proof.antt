@@ -1,0 +1,138 @@
+-- `detector_degrees::try_offsets` meets its contract. The invariant is `Trying`: from the present degree, what is left of the definition ends as the whole does.
+-- The measure is the degrees left. Assumes nothing.
+use Prim.Native.Nat.{ℕ, suc, _+_, _-_, _*_, _≤_, _<_}
+use mathlib.Core.List.{List}
+use mathlib.Core.Path.{_≡_, _∙_}
+use native.Mathlib.Omega.{arith}
+use borrow.Author.Needs.{needs}
+use lib.Ieee.{Float}
+use lib.ListN.{length}
+use Rattle.reads.specs.Runs.{Ran, Resumes}
+use Rattle.reads.specs.RunsLaws.{ran-done, resumes-start, resumes-step, resumes-end}
+use Rattle.sines.specs.Sines.{sineOf, cosineOf}
+use Rattle.detector_degrees.specs.declared.Degree.{Degree}
+use Rattle.detector_degrees.specs.declared.Degree.the-variants.{Found, WrongColour, Outside}
+use Rattle.detector_degrees.specs.Offsets.{testOffsets, turnsFrom, tryOffsets}
+use Rattle.detector_degrees.specs.declared.Rotation.the-variants as rotation
+use Rattle.detector_degrees.proofs.try_offsets.Statement.{statement}
+use Rattle.detector_degrees.proofs.try_offsets.Tie as tie
+
+record Trying (words marks₀ : List ℕ) (rowWords width height : ℕ) (cx cy : Float) (columns rows : List Float) (marks : List ℕ) (i : ℕ) : Type 0 where
+  sized : length marks ≡ length words
+  resumes : Resumes words
+      (turnsFrom rowWords (length words) width height cx cy columns rows (175 - i) i) marks
+      (tryOffsets rowWords (length words) width height cx cy columns rows) marks₀
+
+begins : {words marks : List ℕ} {rowWords width height : ℕ} {cx cy : Float} {columns rows : List Float} → length marks ≡ length words
+    → Trying words marks rowWords width height cx cy columns rows marks 0
+unfolding tryOffsets
+begins same = record { sized = same; resumes = resumes-start }
+
+module _ {words marks₀ marks : List ℕ} {rowWords width height i : ℕ} {cx cy : Float} {columns rows : List Float}
+    (trying : Trying words marks₀ rowWords width height cx cy columns rows marks i) where
+  at-end : 175 ≤ i → Ran (tryOffsets rowWords (length words) width height cx cy columns rows) words marks₀ rotation.None marks
+  unfolding turnsFrom
+  at-end h =
+      let none : 175 - i ≡ 0 = omega arith in
+      resumes-end (ran-done _) (rw none at (trying .resumes))
+
+  module _ (h : i < 175) {sin cos : Float} (s : sin ≡ sineOf (i * 2)) (k : cos ≡ cosineOf (i * 2)) {degree : Degree} {after : List ℕ}
+      (ran : Ran (testOffsets rowWords (length words) width height cx cy columns rows sin cos) words marks degree after) where
+    left : 175 - i ≡ suc (175 - (i + 1))
+    left = omega arith
+
+    found : degree ≡ Found → Ran (tryOffsets rowWords (length words) width height cx cy columns rows) words marks₀ (rotation.Found (i * 2)) after
+    unfolding turnsFrom
+    found e = resumes-end (ran-done _) (resumes-step _ (rw (e, s, k) at ran) (rw left at (trying .resumes)))
+
+    lost : degree ≡ Outside → Ran (tryOffsets rowWords (length words) width height cx cy columns rows) words marks₀ rotation.None after
+    unfolding turnsFrom
+    lost e = resumes-end (ran-done _) (resumes-step _ (rw (e, s, k) at ran) (rw left at (trying .resumes)))
+
+    onward : degree ≡ WrongColour → length after ≡ length marks → Trying words marks₀ rowWords width height cx cy columns rows after (i + 1)
+    unfolding turnsFrom
+    onward e kept = record {
+      sized = kept ∙ trying .sized;
+      resumes = resumes-step _ (rw (e, s, k) at ran) (rw left at (trying .resumes));
+    }
+
+abbrev Inv-loop : tie.InvT-loop
+Inv-loop words marks₀ row-words width height cx cy columns rows table i₀ marks i = Trying words marks₀ row-words width height cx cy columns rows marks i
+
+abbrev μ-loop : tie.MeasureT-loop
+μ-loop words marks₀ row-words width height cx cy columns rows table i₀ marks i = 175 - i
+
+loop-holds : tie.Need-loop-holds Inv-loop μ-loop
+loop-holds c = search begins
+
+mul-degree : tie.Need-mul-degree Inv-loop μ-loop
+mul-degree c = search needs
+
+sine-requires : tie.Need-sine-requires Inv-loop μ-loop
+sine-requires c κs = search needs
+
+cosine-requires : tie.Need-cosine-requires Inv-loop μ-loop
+cosine-requires c κs = search needs
+
+test-degree-requires : tie.Need-test-degree-requires Inv-loop μ-loop
+test-degree-requires c κs = search needs
+
+enum-told : tie.Need-enum-told Inv-loop μ-loop
+enum-told c = search needs
+
+same-length : tie.Need-same-length Inv-loop μ-loop
+same-length c = search needs
+
+returns : tie.Need-returns Inv-loop μ-loop
+returns c = search found
+
+enum-told-2 : tie.Need-enum-told-2 Inv-loop μ-loop
+enum-told-2 c = search needs
+
+same-length-2 : tie.Need-same-length-2 Inv-loop μ-loop
+same-length-2 c = search needs
+
+returns-2 : tie.Need-returns-2 Inv-loop μ-loop
+returns-2 c = search lost
+
+enum-told-3 : tie.Need-enum-told-3 Inv-loop μ-loop
+enum-told-3 c = search needs
+
+add-i : tie.Need-add-i Inv-loop μ-loop
+add-i c = search needs
+
+loop-less : tie.Need-loop-less Inv-loop μ-loop
+loop-less c = search needs
+
+loop-again : tie.Need-loop-again Inv-loop μ-loop
+loop-again c = search onward
+
+same-length-3 : tie.Need-same-length-3 Inv-loop μ-loop
+same-length-3 c = search needs
+
+returns-3 : tie.Need-returns-3 Inv-loop μ-loop
+returns-3 c = search at-end
+
+pub try-offsets-spec : {M : Type 1} → statement M
+try-offsets-spec =
+    tie.close
+    (tie.spec
+    Inv-loop
+    μ-loop
+    loop-holds
+    mul-degree
+    sine-requires
+    cosine-requires
+    test-degree-requires
+    enum-told
+    same-length
+    returns
+    enum-told-2
+    same-length-2
+    returns-2
+    enum-told-3
+    add-i
+    loop-less
+    loop-again
+    same-length-3
+    returns-3)

@@ -1,0 +1,61 @@
+-- The degrees as the code tries them: how far each point lies past the centre is the same at every degree, and worked out once.
+-- `OffsetsLaws` says that this is what `Degrees` defines. Assumes nothing.
+use Prim.Native.Nat.{ℕ, zero, suc, _+_, _*_, _<_}
+use mathlib.Core.Bool.{cond}
+use mathlib.Core.List.{List}
+use mathlib.Core.Path.{_≡_}
+use lib.Ieee.{Float, nan, binary32, add, sub, mul, toUnsigned}
+use lib.ListN.{getD}
+use Rattle.reads.specs.Reads.{Reads, done, _>>=_}
+use Rattle.bit_matrix.specs.Pixels.{ifSample}
+use Rattle.bit_matrix.specs.Area.{tryGetArea}
+use Rattle.bit_matrix.specs.declared.Sample.{Sample}
+use Rattle.ieee.specs.Sign.{abs}
+use Rattle.sines.specs.Sines.{sineOf, cosineOf}
+use Rattle.rxing_result_point.specs.declared.PointU.{PointU}
+use Rattle.rxing_result_point.specs.Points.{real}
+use Rattle.detector_degrees.specs.Degrees.{pointOf, rightColour, ifDegree}
+use Rattle.detector_degrees.specs.declared.Degree.{Degree}
+use Rattle.detector_degrees.specs.declared.Degree.the-variants.{Found, WrongColour, Outside}
+use Rattle.detector_degrees.specs.declared.Rotation.{Rotation}
+use Rattle.detector_degrees.specs.declared.Rotation.the-variants as rotation
+
+-- how far point k lies past a centre: its column, its row
+abbrev pub columnPast : Float → List (List PointU) → ℕ → Float
+columnPast cx groups k = sub binary32 (real (pointOf groups k .x)) cx
+
+abbrev pub rowPast : Float → List (List PointU) → ℕ → Float
+rowPast cy groups k = sub binary32 (real (pointOf groups k .y)) cy
+
+-- entry k of the list is that of point k
+pub record Listed (offset : ℕ → Float) (l : List Float) : Type 0 where
+  pub each : (k : ℕ) → k < 18 → getD l k nan ≡ offset k
+
+module _ (rowWords size width height : ℕ) (cx cy : Float) where
+  -- the area about the pixel in which the point so far past the centre lies when it is turned
+  unfoldable pub lookPast : Float → Float → Float → Float → Reads Sample
+  lookPast sin cos u v =
+      tryGetArea rowWords size width height
+      (toUnsigned 32 (abs (add binary32 (sub binary32 (mul binary32 cos u) (mul binary32 sin v)) cx)))
+      (toUnsigned 32 (abs (add binary32 (add binary32 (mul binary32 sin u) (mul binary32 cos v)) cy)))
+
+  module _ (columns rows : List Float) where
+    -- n points from point k on, at the angle with this sine and cosine
+    unfoldable pub offsetsFrom : Float → Float → ℕ → ℕ → Reads Degree
+    offsetsFrom sin cos zero k = done Found
+    offsetsFrom sin cos (suc n) k = do
+      sample ← lookPast sin cos (getD columns k nan) (getD rows k nan)
+      ifSample (done Outside) (λ black. cond (rightColour k black) (offsetsFrom sin cos n (k + 1)) (done WrongColour)) sample
+
+    unfoldable pub testOffsets : Float → Float → Reads Degree
+    testOffsets sin cos = offsetsFrom sin cos 18 0
+
+    -- n degrees from degree 2 * i on
+    unfoldable pub turnsFrom : ℕ → ℕ → Reads Rotation
+    turnsFrom zero i = done rotation.None
+    turnsFrom (suc n) i = do
+      tested ← testOffsets (sineOf (i * 2)) (cosineOf (i * 2))
+      ifDegree (done (rotation.Found (i * 2))) (turnsFrom n (i + 1)) (done rotation.None) tested
+
+    unfoldable pub tryOffsets : Reads Rotation
+    tryOffsets = turnsFrom 175 0
