@@ -9,7 +9,7 @@ use borrow.Author.Needs.{read-below}
 use lib.Ieee.{Float, nan}
 use lib.ListN.{length, getD, set, length-set, replicate}
 use lib.Seq.{getD-set-same}
-use Rattle.detector_degrees.specs.Offsets.{Listed}
+use Rattle.detector_degrees.specs.Offsets.{EachPoint}
 
 -- the offsets of the points below k are listed
 pub record Listing (offset : ℕ → Float) (l : List Float) (k : ℕ) : Type 0 where
@@ -29,5 +29,5 @@ module _ {offset : ℕ → Float} {l : List Float} {k : ℕ} (listing : Listing 
         | inr lower ↦ read-below Float l k j v nan (offset j) lower (listing .below j lower)
       ]
 
-  pub listed : 18 ≤ k → Listed offset l
+  pub listed : 18 ≤ k → EachPoint offset l
   listed h = record { each = λ j low. listing .below j (omega arith) }

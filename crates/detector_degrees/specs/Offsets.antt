@@ -27,8 +27,8 @@ columnPast cx groups k = sub binary32 (real (pointOf groups k .x)) cx
 abbrev pub rowPast : Float → List (List PointU) → ℕ → Float
 rowPast cy groups k = sub binary32 (real (pointOf groups k .y)) cy
 
--- entry k of the list is that of point k
-pub record Listed (offset : ℕ → Float) (l : List Float) : Type 0 where
+-- entry k of the list is the offset of point k
+pub record EachPoint (offset : ℕ → Float) (l : List Float) : Type 0 where
   pub each : (k : ℕ) → k < 18 → getD l k nan ≡ offset k
 
 module _ (rowWords size width height : ℕ) (cx cy : Float) where

@@ -7,7 +7,7 @@ ghost use lib.ListN.{length};
 ghost use Rattle.reads.specs.Runs.{Ran};
 ghost use Rattle.sines.specs.Sines.{sines};
 ghost use Rattle.detector_degrees.specs.Degrees.{pointOf, rightColour, tryDegrees};
-ghost use Rattle.detector_degrees.specs.Offsets.{columnPast, rowPast, Listed, lookPast, testOffsets, tryOffsets};
+ghost use Rattle.detector_degrees.specs.Offsets.{columnPast, rowPast, EachPoint, lookPast, testOffsets, tryOffsets};
 
 // What a degree's test answers. A point whose area passes the last column or row ends the scale.
 pub enum Degree {
@@ -49,7 +49,7 @@ fn point_of(groups: [[PointU; 3]; 6], k: usize) -> PointU
 
 // Each point's column past the centre's. Made once, it serves all degrees.
 fn columns_past(cx: f32, groups: [[PointU; 3]; 6]) -> [f32; 18]
-    ensures { λ r. ⌜ Listed (columnPast cx groups) r ⌝ }
+    ensures { λ r. ⌜ EachPoint (columnPast cx groups) r ⌝ }
 {
     let mut columns = [0.0f32; 18];
     let mut k = 0usize;
@@ -63,7 +63,7 @@ fn columns_past(cx: f32, groups: [[PointU; 3]; 6]) -> [f32; 18]
 
 // Each point's row past the centre's.
 fn rows_past(cy: f32, groups: [[PointU; 3]; 6]) -> [f32; 18]
-    ensures { λ r. ⌜ Listed (rowPast cy groups) r ⌝ }
+    ensures { λ r. ⌜ EachPoint (rowPast cy groups) r ⌝ }
 {
     let mut rows = [0.0f32; 18];
     let mut k = 0usize;
@@ -146,7 +146,7 @@ fn test_degree(
     Degree::Found
 }
 
-// The degrees 0, 2, .. 348 in order, from the points' offsets. A point whose area passes the last column or row ends them.
+// The degrees 0, 2, .. 348 in order. A point whose area passes the last column or row ends them.
 fn try_offsets(
     words: &[u64],
     marks: &mut [u64],
@@ -194,7 +194,7 @@ fn try_offsets(
     Rotation::None
 }
 
-// The degrees at which the points of these groups about the centre are tried.
+// The first degree at which the points of the six groups, turned about the centre, have their colours.
 pub fn try_degrees(
     words: &[u64],
     marks: &mut [u64],

@@ -8,14 +8,14 @@ use Rattle.reads.specs.Runs.{Ran}
 use Rattle.rxing_result_point.specs.declared.PointU.{PointU}
 use Rattle.rxing_result_point.specs.Points.{real}
 use Rattle.detector_degrees.specs.Degrees.{tryDegrees}
-use Rattle.detector_degrees.specs.Offsets.{columnPast, rowPast, Listed, tryOffsets}
+use Rattle.detector_degrees.specs.Offsets.{columnPast, rowPast, EachPoint, tryOffsets}
 use Rattle.detector_degrees.specs.OffsetsLaws.{same-degrees}
 use Rattle.detector_degrees.specs.declared.Rotation.{Rotation}
 use Rattle.detector_degrees.proofs.try_degrees.Statement.{statement}
 use Rattle.detector_degrees.proofs.try_degrees.Tie as tie
 
 tried : {words marks after : List ℕ} {found : Rotation} (rowWords size width height : ℕ) (center : PointU) (groups : List (List PointU)) {cx cy : Float} {columns rows : List Float}
-    → cx ≡ real (center .x) → cy ≡ real (center .y) → Listed (columnPast cx groups) columns → Listed (rowPast cy groups) rows
+    → cx ≡ real (center .x) → cy ≡ real (center .y) → EachPoint (columnPast cx groups) columns → EachPoint (rowPast cy groups) rows
     → Ran (tryOffsets rowWords size width height cx cy columns rows) words marks found after
     → Ran (tryDegrees rowWords size width height center groups) words marks found after
 tried rowWords size width height center groups e f across down ran =
