@@ -1,7 +1,7 @@
 -- The degrees as the code tries them: how far each point lies past the centre is the same at every degree, and worked out once.
 -- `OffsetsLaws` says that this is what `Degrees` defines. Assumes nothing.
 use Prim.Native.Nat.{ℕ, zero, suc, _+_, _*_, _<_}
-use mathlib.Core.Bool.{cond}
+use mathlib.Core.Bool.{Bool, cond}
 use mathlib.Core.List.{List}
 use mathlib.Core.Path.{_≡_}
 use lib.Ieee.{Float, nan, binary32, add, sub, mul, toUnsigned}
@@ -20,12 +20,13 @@ use Rattle.detector_degrees.specs.declared.Degree.the-variants.{Found, W
 use Rattle.detector_degrees.specs.declared.Rotation.{Rotation}
 use Rattle.detector_degrees.specs.declared.Rotation.the-variants as rotation
 
--- how far point k lies past a centre: its column, its row
-abbrev pub columnPast : Float → List (List PointU) → ℕ → Float
-columnPast cx groups k = sub binary32 (real (pointOf groups k .x)) cx
+-- the column of point k, or its row
+abbrev pub coordinateOf : List (List PointU) → ℕ → Bool → ℕ
+coordinateOf groups k row = cond row (pointOf groups k .y) (pointOf groups k .x)
 
-abbrev pub rowPast : Float → List (List PointU) → ℕ → Float
-rowPast cy groups k = sub binary32 (real (pointOf groups k .y)) cy
+-- how far it lies past that of a centre
+abbrev pub offsetPast : Float → List (List PointU) → Bool → ℕ → Float
+offsetPast center groups row k = sub binary32 (real (coordinateOf groups k row)) center
 
 -- entry k of the list is the offset of point k
 pub record EachPoint (offset : ℕ → Float) (l : List Float) : Type 0 where

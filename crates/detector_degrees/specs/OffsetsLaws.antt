@@ -1,6 +1,6 @@
 -- A degree's test and the degrees in order, from the points' offsets, are those of `Degrees`: the same reads with the same answers. Assumes nothing.
 use Prim.Native.Nat.{ℕ, zero, suc, _+_, _*_, _≤_, _<_}
-use mathlib.Core.Bool.{cond}
+use mathlib.Core.Bool.{true, false, cond}
 use mathlib.Core.List.{List}
 use mathlib.Core.Path.{_≡_, refl, ap₂}
 use native.Mathlib.Omega.{arith}
@@ -13,14 +13,14 @@ use Rattle.sines.specs.Sines.{sineOf, cosineOf}
 use Rattle.rxing_result_point.specs.declared.PointU.{PointU}
 use Rattle.rxing_result_point.specs.Points.{real, turned}
 use Rattle.detector_degrees.specs.Degrees.{pointOf, rightColour, ifDegree, lookAt, pointsFrom, testDegree, degreesFrom, tryDegrees}
-use Rattle.detector_degrees.specs.Offsets.{columnPast, rowPast, EachPoint, lookPast, offsetsFrom, testOffsets, turnsFrom, tryOffsets}
+use Rattle.detector_degrees.specs.Offsets.{offsetPast, EachPoint, lookPast, offsetsFrom, testOffsets, turnsFrom, tryOffsets}
 use Rattle.detector_degrees.specs.declared.Degree.{Degree}
 use Rattle.detector_degrees.specs.declared.Degree.the-variants.{WrongColour, Outside}
 use Rattle.detector_degrees.specs.declared.Rotation.{Rotation}
 use Rattle.detector_degrees.specs.declared.Rotation.the-variants as rotation
 
 module _ (rowWords size width height : ℕ) (center : PointU) (groups : List (List PointU)) {columns rows : List Float}
-    (across : EachPoint (columnPast (real (center .x)) groups) columns) (down : EachPoint (rowPast (real (center .y)) groups) rows) where
+    (across : EachPoint (offsetPast (real (center .x)) groups false) columns) (down : EachPoint (offsetPast (real (center .y)) groups true) rows) where
   same-look : (sin cos : Float) (k : ℕ) → k < 18
       → lookPast rowWords size width height (real (center .x)) (real (center .y)) sin cos (getD columns k nan) (getD rows k nan)
       ≡ lookAt rowWords size width height center sin cos (pointOf groups k)

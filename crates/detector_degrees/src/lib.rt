@@ -6,8 +6,8 @@ ghost use Prim.Native.Nat.{_^_, _≤_, _<_};
 ghost use lib.ListN.{length};
 ghost use Rattle.reads.specs.Runs.{Ran};
 ghost use Rattle.sines.specs.Sines.{sines};
-ghost use Rattle.detector_degrees.specs.Degrees.{pointOf, rightColour, tryDegrees};
-ghost use Rattle.detector_degrees.specs.Offsets.{columnPast, rowPast, EachPoint, lookPast, testOffsets, tryOffsets};
+ghost use Rattle.detector_degrees.specs.Degrees.{rightColour, tryDegrees};
+ghost use Rattle.detector_degrees.specs.Offsets.{coordinateOf, offsetPast, EachPoint, lookPast, testOffsets, tryOffsets};
 
 // What a degree's test answers. A point whose area passes the last column or row ends the scale.
 pub enum Degree {
@@ -38,41 +38,28 @@ fn right_colour(k: usize, black: bool) -> bool
     black
 }
 
-// Point k of the eighteen.
-fn point_of(groups: [[PointU; 3]; 6], k: usize) -> PointU
+// The column of point k of the eighteen, or its row.
+fn coordinate_of(groups: [[PointU; 3]; 6], k: usize, row: bool) -> u32
     requires { ⌜ «k» < 18 ⌝ }
-    ensures { λ r. ⌜ r ≡ pointOf groups «k» ⌝ }
+    ensures { λ r. ⌜ r ≡ coordinateOf groups «k» row ⌝ }
 {
     let group = groups[k / 3];
-    group[k % 3]
+    let point = group[k % 3];
+    if row { point.y } else { point.x }
 }
 
-// Each point's column past the centre's. Made once, it serves all degrees.
-fn columns_past(cx: f32, groups: [[PointU; 3]; 6]) -> [f32; 18]
-    ensures { λ r. ⌜ EachPoint (columnPast cx groups) r ⌝ }
+// How far each point's column lies past the centre's, or its row. Made once, it serves all degrees.
+fn offsets_past(center: f32, groups: [[PointU; 3]; 6], row: bool) -> [f32; 18]
+    ensures { λ r. ⌜ EachPoint (offsetPast center groups row) r ⌝ }
 {
-    let mut columns = [0.0f32; 18];
+    let mut offsets = [0.0f32; 18];
     let mut k = 0usize;
     while k < 18 {
-        let point = point_of(groups, k);
-        columns[k] = std::num::nearest_u32_to_f32(point.x) - cx;
+        let coordinate = coordinate_of(groups, k, row);
+        offsets[k] = std::num::nearest_u32_to_f32(coordinate) - center;
         k += 1;
     }
-    columns
-}
-
-// Each point's row past the centre's.
-fn rows_past(cy: f32, groups: [[PointU; 3]; 6]) -> [f32; 18]
-    ensures { λ r. ⌜ EachPoint (rowPast cy groups) r ⌝ }
-{
-    let mut rows = [0.0f32; 18];
-    let mut k = 0usize;
-    while k < 18 {
-        let point = point_of(groups, k);
-        rows[k] = std::num::nearest_u32_to_f32(point.y) - cy;
-        k += 1;
-    }
-    rows
+    offsets
 }
 
 // The colour about the point that lies u columns and v rows past the centre, turned about it. The operations are those of `get_point`, in its order.
@@ -210,8 +197,8 @@ pub fn try_degrees(
 {
     let cx = std::num::nearest_u32_to_f32(center.x);
     let cy = std::num::nearest_u32_to_f32(center.y);
-    let columns = columns_past(cx, groups);
-    let rows = rows_past(cy, groups);
+    let columns = offsets_past(cx, groups, false);
+    let rows = offsets_past(cy, groups, true);
     try_offsets(
         words,
         marks,

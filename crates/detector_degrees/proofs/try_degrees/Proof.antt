@@ -1,5 +1,6 @@
 -- `detector_degrees::try_degrees` meets its contract: the run from the points' offsets is that of the definition, by `same-degrees`. Assumes nothing.
 use Prim.Native.Nat.{ℕ}
+use mathlib.Core.Bool.{true, false}
 use mathlib.Core.List.{List}
 use mathlib.Core.Path.{_≡_}
 use borrow.Author.Needs.{needs}
@@ -8,14 +9,14 @@ use Rattle.reads.specs.Runs.{Ran}
 use Rattle.rxing_result_point.specs.declared.PointU.{PointU}
 use Rattle.rxing_result_point.specs.Points.{real}
 use Rattle.detector_degrees.specs.Degrees.{tryDegrees}
-use Rattle.detector_degrees.specs.Offsets.{columnPast, rowPast, EachPoint, tryOffsets}
+use Rattle.detector_degrees.specs.Offsets.{offsetPast, EachPoint, tryOffsets}
 use Rattle.detector_degrees.specs.OffsetsLaws.{same-degrees}
 use Rattle.detector_degrees.specs.declared.Rotation.{Rotation}
 use Rattle.detector_degrees.proofs.try_degrees.Statement.{statement}
 use Rattle.detector_degrees.proofs.try_degrees.Tie as tie
 
 tried : {words marks after : List ℕ} {found : Rotation} (rowWords size width height : ℕ) (center : PointU) (groups : List (List PointU)) {cx cy : Float} {columns rows : List Float}
-    → cx ≡ real (center .x) → cy ≡ real (center .y) → EachPoint (columnPast cx groups) columns → EachPoint (rowPast cy groups) rows
+    → cx ≡ real (center .x) → cy ≡ real (center .y) → EachPoint (offsetPast cx groups false) columns → EachPoint (offsetPast cy groups true) rows
     → Ran (tryOffsets rowWords size width height cx cy columns rows) words marks found after
     → Ran (tryDegrees rowWords size width height center groups) words marks found after
 tried rowWords size width height center groups e f across down ran =
@@ -27,11 +28,11 @@ nearest-u32-to-f32-requires c κs = search needs
 nearest-u32-to-f32-requires-2 : tie.Need-nearest-u32-to-f32-requires-2
 nearest-u32-to-f32-requires-2 c κs = search needs
 
-columns-past-requires : tie.Need-columns-past-requires
-columns-past-requires c κs = search needs
+offsets-past-requires : tie.Need-offsets-past-requires
+offsets-past-requires c κs = search needs
 
-rows-past-requires : tie.Need-rows-past-requires
-rows-past-requires c κs = search needs
+offsets-past-requires-2 : tie.Need-offsets-past-requires-2
+offsets-past-requires-2 c κs = search needs
 
 try-offsets-requires : tie.Need-try-offsets-requires
 try-offsets-requires c κs = search needs
@@ -48,8 +49,8 @@ try-degrees-spec =
     (tie.spec
     nearest-u32-to-f32-requires
     nearest-u32-to-f32-requires-2
-    columns-past-requires
-    rows-past-requires
+    offsets-past-requires
+    offsets-past-requires-2
     try-offsets-requires
     same-length
     returns)
