@@ -7,44 +7,34 @@ const REFUSED: u32 = u32::MAX;
 
 // A slice crosses as its pointer and its length, an array as its pointer, a float as its bits.
 unsafe extern "C" {
+    // width, height, row, columns
     fn step_count_row(
         words: *const u64,
         words_len: usize,
         marks: *mut u64,
         marks_len: usize,
-        row_words: u32,
-        row: u32,
-        columns: u32,
+        numbers: &[u32; 4],
     ) -> u32;
 
+    // width, height, capacity
     fn step_find_concentric_circles(
         words: *const u64,
         words_len: usize,
         marks: *mut u64,
         marks_len: usize,
-        circles: *mut u32,
-        circles_len: usize,
-        row_words: u32,
-        width: u32,
-        height: u32,
-        capacity: u32,
+        records: *mut u32,
+        records_len: usize,
+        numbers: &[u32; 3],
     ) -> usize;
 
-    fn step_calculate_circle_variance(
-        h: *const u32,
-        h_len: usize,
-        v: *const u32,
-        v_len: usize,
-    ) -> u32;
-
     fn step_calculate_center_point_std_dev(
-        words: *const u32,
-        words_len: usize,
+        records: *const u32,
+        records_len: usize,
         found: u32,
         out: &mut [u32; 4],
     ) -> u32;
 
-    fn step_keep_and_rank(words: *mut u32, words_len: usize, found: u32) -> usize;
+    fn step_keep_and_rank(records: *mut u32, records_len: usize, found: u32) -> usize;
 
     fn step_guess_barcode_size_general(
         radius: u32,
@@ -54,102 +44,57 @@ unsafe extern "C" {
         out: &mut [u32; 2],
     ) -> u32;
 
-    fn step_plain_boundary(
-        width: u32,
-        height: u32,
-        x: u32,
-        y: u32,
-        radius: u32,
-        out: &mut [u32; 4],
-    ) -> u32;
+    // width, height, the centre's column and row, radius
+    fn step_scaled_boundary(numbers: &[u32; 5], scale: u64, out: &mut [u32; 4]) -> u32;
 
-    fn step_scaled_boundary(
-        width: u32,
-        height: u32,
-        x: u32,
-        y: u32,
-        radius: u32,
-        scale: u64,
-        out: &mut [u32; 4],
-    ) -> u32;
+    // width, height, the centre's column and row, radius, the cell's column and row
+    fn step_adjust_point_alternate(numbers: &[u32; 7], scale: u64, out: &mut [u32; 2]) -> u32;
 
-    fn step_adjust_point_alternate(
-        width: u32,
-        height: u32,
-        center_x: u32,
-        center_y: u32,
-        radius: u32,
-        scale: u64,
-        x: u32,
-        y: u32,
-        out: &mut [u32; 2],
-    ) -> u32;
+    // column and row of the centre, then of the point, and the degree
+    fn step_get_point(numbers: &[u32; 5], out: &mut [u32; 2]);
 
-    fn step_get_point(
-        center_x: u32,
-        center_y: u32,
-        x: u32,
-        y: u32,
-        degree: u32,
-        out: &mut [u32; 2],
-    );
+    // the bits of each point's x and y
+    fn step_find_center(numbers: &[u32; 6], out: &mut [u32; 2]);
 
-    fn step_find_center(x1: u32, y1: u32, x2: u32, y2: u32, x3: u32, y3: u32, out: &mut [u32; 2]);
-
-    fn step_class_of(degree: u32) -> u32;
-
+    // width, height, the pixel's column and row
     fn step_try_get_area(
         words: *const u64,
         words_len: usize,
         marks: *mut u64,
         marks_len: usize,
-        row_words: u32,
-        width: u32,
-        height: u32,
-        x: u32,
-        y: u32,
+        numbers: &[u32; 4],
     ) -> u32;
 
+    // width, height, the centre's column and row
     fn step_find_width_at_degree(
         words: *const u64,
         words_len: usize,
         marks: *mut u64,
         marks_len: usize,
-        row_words: u32,
-        x: u32,
-        y: u32,
+        numbers: &[u32; 4],
         steep: bool,
         out: &mut [u32; 4],
     ) -> u32;
 
+    // width, height, the centre's column and row
     fn step_corrected_center(
         words: *const u64,
         words_len: usize,
         marks: *mut u64,
         marks_len: usize,
-        row_words: u32,
-        x: u32,
-        y: u32,
+        numbers: &[u32; 4],
         out: &mut [u32; 2],
     ) -> u32;
 
+    // width, height, the centre's column and row, radius
     fn step_box_symbol(
         words: *const u64,
         words_len: usize,
         marks: *mut u64,
         marks_len: usize,
         fields: &mut [u32; 40],
-        row_words: u32,
-        width: u32,
-        height: u32,
-        x: u32,
-        y: u32,
-        radius: u32,
+        numbers: &[u32; 5],
     ) -> u32;
-}
-
-fn row_words(image: Image) -> u32 {
-    image.width.div_ceil(64)
 }
 
 fn answered(answer: u32) -> Option<u32> {
@@ -172,9 +117,7 @@ pub fn count_row(image: Image, marks: &mut [u64], row: u32, columns: u32) -> Opt
             image.words.len(),
             marks.as_mut_ptr(),
             marks.len(),
-            row_words(image),
-            row,
-            columns,
+            &[image.width, image.height, row, columns],
         )
     })
 }
@@ -183,7 +126,7 @@ pub fn count_row(image: Image, marks: &mut [u64], row: u32, columns: u32) -> Opt
 pub fn find_concentric_circles(
     image: Image,
     marks: &mut [u64],
-    circles: &mut [u32],
+    records: &mut [u32],
     capacity: u32,
 ) -> Option<u32> {
     let found = unsafe {
@@ -192,32 +135,24 @@ pub fn find_concentric_circles(
             image.words.len(),
             marks.as_mut_ptr(),
             marks.len(),
-            circles.as_mut_ptr(),
-            circles.len(),
-            row_words(image),
-            image.width,
-            image.height,
-            capacity,
+            records.as_mut_ptr(),
+            records.len(),
+            &[image.width, image.height, capacity],
         )
     };
     answered(found as u32)
 }
 
-/// The variance's bits.
-pub fn calculate_circle_variance(h: &[u32], v: &[u32]) -> Option<u32> {
-    answered(unsafe { step_calculate_circle_variance(h.as_ptr(), h.len(), v.as_ptr(), v.len()) })
-}
-
 /// Deviation and mean of the centres of `found` records, each x then y.
-pub fn calculate_center_point_std_dev(words: &[u32], found: u32) -> Option<[u32; 4]> {
+pub fn calculate_center_point_std_dev(records: &[u32], found: u32) -> Option<[u32; 4]> {
     filled(|out| unsafe {
-        step_calculate_center_point_std_dev(words.as_ptr(), words.len(), found, out)
+        step_calculate_center_point_std_dev(records.as_ptr(), records.len(), found, out)
     })
 }
 
 /// The number of records that are kept; the buffer is left as the step leaves it.
-pub fn keep_and_rank(words: &mut [u32], found: u32) -> Option<u32> {
-    answered(unsafe { step_keep_and_rank(words.as_mut_ptr(), words.len(), found) } as u32)
+pub fn keep_and_rank(records: &mut [u32], found: u32) -> Option<u32> {
+    answered(unsafe { step_keep_and_rank(records.as_mut_ptr(), records.len(), found) } as u32)
 }
 
 /// Width and height of a symbol.
@@ -238,20 +173,15 @@ pub fn guess_barcode_size_general(
     })
 }
 
-/// Left, right, top, bottom: plain without a scale.
-pub fn boundary(
+/// Left, right, top, bottom of a scale.
+pub fn scaled_boundary(
     centre: (u32, u32),
     radius: u32,
     (width, height): (u32, u32),
-    scale: Option<f64>,
+    scale: f64,
 ) -> Option<[u32; 4]> {
-    let (x, y) = centre;
-    filled(|out| unsafe {
-        match scale {
-            None => step_plain_boundary(width, height, x, y, radius, out),
-            Some(scale) => step_scaled_boundary(width, height, x, y, radius, scale.to_bits(), out),
-        }
-    })
+    let numbers = [width, height, centre.0, centre.1, radius];
+    filled(|out| unsafe { step_scaled_boundary(&numbers, scale.to_bits(), out) })
 }
 
 /// A point of a scale's grid as a pixel.
@@ -262,38 +192,22 @@ pub fn adjust_point_alternate(
     scale: f64,
     (x, y): (u32, u32),
 ) -> Option<[u32; 2]> {
-    filled(|out| unsafe {
-        step_adjust_point_alternate(
-            width,
-            height,
-            centre.0,
-            centre.1,
-            radius,
-            scale.to_bits(),
-            x,
-            y,
-            out,
-        )
-    })
+    let numbers = [width, height, centre.0, centre.1, radius, x, y];
+    filled(|out| unsafe { step_adjust_point_alternate(&numbers, scale.to_bits(), out) })
 }
 
 /// The bits of a point turned about a centre.
 pub fn get_point(centre: (u32, u32), (x, y): (u32, u32), degree: u32) -> [u32; 2] {
     let mut out = [0; 2];
-    unsafe { step_get_point(centre.0, centre.1, x, y, degree, &mut out) };
+    unsafe { step_get_point(&[centre.0, centre.1, x, y, degree], &mut out) };
     out
 }
 
 /// The bits of the centre of the circle through three points, which are given by theirs.
 pub fn find_center([a, b, c]: [(u32, u32); 3]) -> [u32; 2] {
     let mut out = [0; 2];
-    unsafe { step_find_center(a.0, a.1, b.0, b.1, c.0, c.1, &mut out) };
+    unsafe { step_find_center(&[a.0, a.1, b.0, b.1, c.0, c.1], &mut out) };
     out
-}
-
-/// The class of a turn.
-pub fn class_of(degree: u32) -> Option<u32> {
-    answered(unsafe { step_class_of(degree) })
 }
 
 /// The colour about a pixel: 0 white, 1 black, 2 outside.
@@ -304,11 +218,7 @@ pub fn try_get_area(image: Image, marks: &mut [u64], (x, y): (u32, u32)) -> Opti
             image.words.len(),
             marks.as_mut_ptr(),
             marks.len(),
-            row_words(image),
-            image.width,
-            image.height,
-            x,
-            y,
+            &[image.width, image.height, x, y],
         )
     })
 }
@@ -326,9 +236,7 @@ pub fn find_width_at_degree(
             image.words.len(),
             marks.as_mut_ptr(),
             marks.len(),
-            row_words(image),
-            x,
-            y,
+            &[image.width, image.height, x, y],
             steep,
             out,
         )
@@ -343,9 +251,7 @@ pub fn corrected_center(image: Image, marks: &mut [u64], (x, y): (u32, u32)) -> 
             image.words.len(),
             marks.as_mut_ptr(),
             marks.len(),
-            row_words(image),
-            x,
-            y,
+            &[image.width, image.height, x, y],
             out,
         )
     })
@@ -366,12 +272,7 @@ pub fn box_symbol(
             marks.as_mut_ptr(),
             marks.len(),
             fields,
-            row_words(image),
-            image.width,
-            image.height,
-            x,
-            y,
-            radius,
+            &[image.width, image.height, x, y, radius],
         )
     })
 }

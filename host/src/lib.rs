@@ -5,6 +5,13 @@ mod tunnel {
     unsafe extern "C" {
         pub fn maxicode_check(file: *const u8, file_len: usize) -> u32;
 
+        pub fn maxicode_unpack(
+            file: *const u8,
+            file_len: usize,
+            words: *mut u64,
+            words_len: usize,
+        ) -> u32;
+
         pub fn maxicode_search_words(
             words: *const u64,
             words_len: usize,
@@ -49,6 +56,13 @@ pub const LONGEST: usize = 65_536;
 pub fn check(file: &[u8]) -> u32 {
     // SAFETY: the pointer and the length are one slice's, lent for the call.
     unsafe { tunnel::maxicode_check(file.as_ptr(), file.len()) }
+}
+
+/// Unpacks a crop file into `words`, as many as its image has: they are written only when the answer is 0. Otherwise it is the number
+/// that `check` gives, or 6 for words of another length.
+pub fn unpack(file: &[u8], words: &mut [u64]) -> u32 {
+    // SAFETY: each pointer and the length after it are one slice's, lent for the call.
+    unsafe { tunnel::maxicode_unpack(file.as_ptr(), file.len(), words.as_mut_ptr(), words.len()) }
 }
 
 /// Searches an unpacked image for bull's-eyes: rows of ceil(width/64) words, column c at bit c mod 64. A record is 40 words; the

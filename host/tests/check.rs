@@ -1,5 +1,5 @@
-//! Compares `check` with a judge on valid, damaged and random files, around each boundary of "Crop file and answer numbers".
-use host::check;
+//! Compares `check` and `unpack` with a judge on valid, damaged and random files, around each boundary of "Crop file and answer numbers".
+use host::{check, unpack};
 
 /// The judge's number; the second reading gives the same.
 fn judge(file: &[u8]) -> u32 {
@@ -81,7 +81,31 @@ fn compare(file: &[u8], seen: &mut [usize; 6]) {
         &file[..file.len().min(8)]
     );
     seen[number as usize] += 1;
+    let needed = match number {
+        0 => {
+            let (width, height) = dimensions(file);
+            width.div_ceil(64) * height
+        }
+        _ => 3,
+    };
+    for length in [needed, needed + 1, needed - 1] {
+        let mut words = vec![PATTERN; length];
+        let mut expected = words.clone();
+        let answer = match number {
+            0 if length == needed => {
+                oracle::crop::unpack(file, &mut expected);
+                0
+            }
+            0 => 6,
+            _ => number,
+        };
+        assert_eq!(unpack(file, &mut words), answer, "{length} words");
+        assert_eq!(words, expected, "{length} words");
+    }
 }
+
+/// What a word holds before it is lent.
+const PATTERN: u64 = 0xa5a5_a5a5_a5a5_a5a5;
 
 const EDGES: [u32; 16] = [
     0, 1, 31, 32, 33, 34, 63, 64, 65, 250, 251, 2047, 2048, 2049, 4094, 4095,

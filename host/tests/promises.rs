@@ -171,14 +171,16 @@ fn definition_lines(text: &str) -> usize {
     count
 }
 
-/// The names that a definition file takes from one of another crate or its own, with that file; a type of the code is none.
+/// The names that a definition file takes from one of another crate or its own, with that file; a type of the code is none. A file that is taken whole
+/// stands under the name that it is given.
 fn taken(text: &str) -> Vec<(String, String)> {
     let mut found = Vec::new();
     let uses = text
         .lines()
         .filter_map(|line| line.strip_prefix("use Rattle·"));
     for line in uses.filter(|line| !line.contains(".specs.declared.")) {
-        let (module, names) = line.split_once(".{").expect("a use names what it takes");
+        let whole = line.split_once(" as ");
+        let (module, names) = (line.split_once(".{").or(whole)).expect("a use names what it takes");
         let (owner, file) = module.split_once('.').expect("a file of a crate");
         let file = format!(
             "{}/{}.antt",

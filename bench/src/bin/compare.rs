@@ -10,7 +10,7 @@ use std::fmt::Debug;
 use oracle::generate::{self, Crop, Random};
 use oracle::harness::class;
 use oracle::harness::steps::{self, Boxed, Candidate, Image};
-use oracle::{MOST_CANDIDATES, RECORD_WORDS, options};
+use oracle::{MOST_CANDIDATES, RECORD_WORDS, crop, options};
 
 /// Inputs of each step that reads no image, for each crop.
 const PURE_INPUTS: u32 = 4;
@@ -177,8 +177,8 @@ impl Round<'_> {
     /// The sweep of a crop; the candidates if they are within the capacity.
     fn sweep(&mut self, crop: &Crop) -> Vec<Candidate> {
         let capacity = (crop.capacity_words / RECORD_WORDS).min(MOST_CANDIDATES);
-        let mut circles = self.words(crop.capacity_words, |n| n as u32);
-        let mut expected = circles.clone();
+        let mut records = self.words(crop.capacity_words, |n| n as u32);
+        let mut expected = records.clone();
         let (mut candidates, set) = steps::sweep(image(crop), capacity);
         for (candidate, record) in
             (candidates.iter().take(capacity)).zip(expected.chunks_mut(RECORD_WORDS))
@@ -188,10 +188,10 @@ impl Round<'_> {
         let found = candidates.len();
         let step = "find_concentric_circles";
         let ours = |marks: &mut [u64]| {
-            bench::find_concentric_circles(image(crop), marks, &mut circles, capacity as u32)
+            bench::find_concentric_circles(image(crop), marks, &mut records, capacity as u32)
         };
         self.reading(step, crop, capacity, ours, (Some(found as u32), set));
-        self.same(step, (crop.family, "records"), circles, expected);
+        self.same(step, (crop.family, "records"), records, expected);
         self.tally.add(
             step,
             match found {
@@ -205,24 +205,30 @@ impl Round<'_> {
         candidates
     }
 
-    /// A call whose buffers do not fit is refused, and changes nothing.
+    /// A call whose buffers do not fit, or whose centre lies outside, is refused, and changes nothing.
     fn refused(&mut self, crop: &Crop) {
         let mut marks = self.words(crop.words.len() - 1, |n| n);
-        let mut circles = self.words(crop.capacity_words, |n| n as u32);
-        let before = (marks.clone(), circles.clone());
-        let found = bench::find_concentric_circles(image(crop), &mut marks, &mut circles, 0);
+        let mut records = self.words(crop.capacity_words, |n| n as u32);
+        let before = (marks.clone(), records.clone());
+        let found = bench::find_concentric_circles(image(crop), &mut marks, &mut records, 0);
         self.same("find_concentric_circles, marks too short", (), found, None);
         let mut fields = [7; RECORD_WORDS];
         let boxed = bench::box_symbol(image(crop), &mut marks, &mut fields, (0, 0), 6);
         self.same("box_symbol, marks too short", (), boxed, None);
         self.same("box_symbol, record", (), fields, [7; RECORD_WORDS]);
-        let many = bench::keep_and_rank(&mut circles, 1025);
+        let mut whole = vec![7; crop.words.len()];
+        let right = bench::corrected_center(image(crop), &mut whole, (crop.width, 0));
+        self.same("corrected_center, right of the image", (), right, None);
+        let below = bench::corrected_center(image(crop), &mut whole, (0, crop.height));
+        self.same("corrected_center, below the image", (), below, None);
+        self.same("marks of these", (), whole, vec![7; crop.words.len()]);
+        let many = bench::keep_and_rank(&mut records, 1025);
         self.same("keep_and_rank, 1,025 candidates", (), many, None);
-        self.same("buffers after a refusal", (), (marks, circles), before);
+        self.same("buffers after a refusal", (), (marks, records), before);
         self.tally.add("refused calls", "unchanged");
     }
 
-    /// A pixel, mostly inside the image.
+    /// A pixel of the image, often in its first or last column or row.
     fn pixel(&mut self, crop: &Crop) -> (u32, u32) {
         (
             self.between(0, crop.width - 1),
@@ -251,10 +257,7 @@ impl Round<'_> {
     }
 
     fn walks(&mut self, crop: &Crop) {
-        let centre = match self.random.below(8) {
-            0 => (self.between(0, 2047), self.between(0, 2047)),
-            _ => self.pixel(crop),
-        };
+        let centre = self.pixel(crop);
         let steep = self.random.one_in(2);
         let ((_, ends), set) =
             steps::width_at_degree(image(crop), centre, if steep { 97 } else { 7 });
@@ -337,22 +340,6 @@ impl Round<'_> {
 // ---- steps that keep and rank
 
 impl Round<'_> {
-    fn variance(&mut self) {
-        let (rows, columns) = (self.runs(), self.runs());
-        let ours = bench::calculate_circle_variance(&rows, &columns);
-        let source = steps::variance(rows, columns);
-        self.same(
-            "calculate_circle_variance",
-            (rows, columns),
-            ours,
-            Some(bits(source)),
-        );
-        self.tally.add(
-            "calculate_circle_variance",
-            if source == 0.0 { "0" } else { "more" },
-        );
-    }
-
     /// Random candidates, about one place or anywhere, often with equal runs.
     fn candidates(&mut self) -> Vec<Candidate> {
         let count = match self.random.below(64) {
@@ -454,30 +441,30 @@ impl Round<'_> {
         );
     }
 
+    /// Width and height of an image that is not refused.
+    fn sides(&mut self) -> (u32, u32) {
+        let width = self.between(crop::LEAST_SIDE, crop::GREATEST_SIDE);
+        let most = crop::MOST_WORDS / crop::row_words(width);
+        let most = (most as u32).min(crop::GREATEST_SIDE);
+        (width, self.between(crop::LEAST_SIDE, most))
+    }
+
     fn boundary(&mut self) {
-        let (width, height) = (self.between(33, 2048), self.between(33, 2048));
+        let (width, height) = self.sides();
         let centre = (self.between(0, width - 1), self.between(0, height - 1));
-        let scale = if self.random.one_in(3) {
-            None
-        } else {
-            Some(self.scale())
-        };
+        let scale = self.scale();
         let small = self.random.pick(&[60, 2047]);
         let radius = self.between(0, small);
         let input = (centre, radius, (width, height), scale);
-        let ours = bench::boundary(centre, radius, (width, height), scale);
+        let ours = bench::scaled_boundary(centre, radius, (width, height), scale);
         let (left, right, top, bottom) =
-            steps::simple_boundary(centre, radius, (width, height), scale);
-        self.same("boundary", input, ours, Some([left, right, top, bottom]));
+            steps::simple_boundary(centre, radius, (width, height), Some(scale));
+        let expected = [left, right, top, bottom];
+        self.same("scaled_boundary", input, ours, Some(expected));
         let clamped = left == 0 || right == width || top == height || bottom == 0;
         self.tally.add(
-            "boundary",
-            match (scale.is_some(), clamped) {
-                (false, false) => "plain, inside",
-                (false, true) => "plain, clamped",
-                (true, false) => "scaled, inside",
-                (true, true) => "scaled, clamped",
-            },
+            "scaled_boundary",
+            if clamped { "clamped" } else { "inside" },
         );
         let (radius, scale, cell) = (
             radius.max(6),
@@ -538,13 +525,6 @@ impl Round<'_> {
             },
         );
     }
-
-    fn class(&mut self) {
-        let degree = self.between(0, 359);
-        let source = class(degree as f32);
-        self.same("class_of", degree, bench::class_of(degree), Some(source));
-        self.tally.add("class_of", source);
-    }
 }
 
 /// Every step, on a crop and on numbers of its seed.
@@ -562,7 +542,8 @@ fn round(seed: u64, tally: &mut Tally) {
         let Candidate { centre, radius, .. } = candidates[index as usize];
         round.boxed(&crop, centre, radius, "box_symbol, kept");
     }
-    let (centre, radius) = (round.pixel(&crop), round.between(6, 100));
+    let most = round.random.pick(&[100, 100, 2047]);
+    let (centre, radius) = (round.pixel(&crop), round.between(6, most));
     round.boxed(&crop, centre, radius, "box_symbol, anywhere");
     round.walks(&crop);
     round.refused(&crop);
@@ -570,12 +551,10 @@ fn round(seed: u64, tally: &mut Tally) {
     let candidates = round.candidates();
     round.ranked(&candidates, "keep_and_rank, random");
     for _ in 0..PURE_INPUTS {
-        round.variance();
         round.size();
         round.boundary();
         round.turned();
         round.centre();
-        round.class();
     }
 }
 

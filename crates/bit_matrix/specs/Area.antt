@@ -5,6 +5,7 @@ use lib.Dec.{leb}
 use lib.ListN.{length}
 use Rattle.reads.specs.Reads.{Reads, done, _>>=_}
 use Rattle.reads.specs.Bits.{digit, range}
+use Rattle.bit_matrix.specs.declared.Shape.{Shape}
 use Rattle.bit_matrix.specs.Pixels.{tryGet, ifSample}
 use Rattle.bit_matrix.specs.declared.Sample.{Sample}
 use Rattle.bit_matrix.specs.declared.Sample.the-variants.{Outside, Inside}
@@ -32,12 +33,12 @@ abbrev pub ifCount : {B : Type 0} → B → (ℕ → B) → Count → B
 ifCount none some count.Outside = none
 ifCount none some (count.Black n) = some n
 
-module _ (rowWords size width height : ℕ) where
+module _ (shape : Shape) where
   -- how many pixels of a list are black, beside those counted before, unless one is outside: no later one is looked at then
   unfoldable pub countBlack : List Cell → ℕ → Reads Count
   countBlack [] n = done (count.Black n)
   countBlack (cell ∷ cells) n = do
-    sample ← tryGet rowWords size width height (cell .0) (cell .1)
+    sample ← tryGet shape (cell .0) (cell .1)
     ifSample (done count.Outside) (λ black. countBlack cells (n + digit black)) sample
 
   -- at least half of them black

@@ -3,7 +3,7 @@ use Prim.Native.Nat.{ℕ, _+_, _-_, _*_, _%_, _≤_, _<_}
 use mathlib.Core.Path.{_≡_}
 use mathlib.Core.List.{List, [], _∷_, flatMap}
 use Rattle.reads.specs.Bits.{digit, bitAt, markAll, range}
-use Rattle.bit_matrix.specs.Pixels.{offset}
+use Rattle.bit_matrix.specs.declared.Shape.{Shape}
 
 -- how many bits of a list are set
 unfoldable pub setBits : List ℕ → List ℕ → ℕ
@@ -16,18 +16,17 @@ pub record Counted (words before is : List ℕ) (count : ℕ) (after : List ℕ)
   pub marked : after ≡ markAll before is
 
 -- columns x to x + 2 of row y
-abbrev pub threeOf : ℕ → ℕ → ℕ → List ℕ
-threeOf rowWords x y = range (y * rowWords * 64 + x) 3
+abbrev pub threeOf : Shape → ℕ → ℕ → List ℕ
+threeOf shape x y = range (y * shape .«row_words» * 64 + x) 3
 
 -- the same of rows y to y + 2
-abbrev pub nineOf : ℕ → ℕ → ℕ → List ℕ
-nineOf rowWords x y = flatMap (threeOf rowWords x) (range y 3)
+abbrev pub nineOf : Shape → ℕ → ℕ → List ℕ
+nineOf shape x y = flatMap (threeOf shape x) (range y 3)
 
--- the nine pixels about (x, y) lie inside, and in each row the three lie in one stored word
-pub record InWords (size rowWords width height x y : ℕ) : Type 0 where
+-- the nine pixels about (x, y) lie inside, and in each row the three lie in one word
+pub record InWords (shape : Shape) (x y : ℕ) : Type 0 where
   pub left : 0 < x
-  pub right : x + 1 < width
+  pub right : x + 1 < shape .width
   pub top : 0 < y
-  pub bottom : y + 1 < height
+  pub bottom : y + 1 < shape .height
   pub place : 3 + (x - 1) % 64 ≤ 64
-  pub stored : offset rowWords (x - 1) (y + 1) < size

@@ -1,3 +1,5 @@
+pub mod Shape
+pub mod ShapeLaws
 pub mod Pixels
 pub mod PixelsLaws
 pub mod Area

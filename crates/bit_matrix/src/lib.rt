@@ -1,14 +1,22 @@
 // bit_matrix.rs: the pixels of an image of 64-bit words, true for black, with a mark set for each stored bit that is read.
-// What is read is the definition `pixel`. An image has rows of `row_words` words; bit c % 64 of word c / 64 of a row is its column c.
+// What is read is the definition `pixel`. Bit c % 64 of word c / 64 of a row is its column c.
 ghost use mathlib.Core.Bool.{true};
 ghost use mathlib.Core.Path.{_≡_};
 ghost use Prim.Native.Nat.{_+_, _-_, _%_, _^_, _≤_, _<_};
 ghost use lib.ListN.{length};
 ghost use Rattle.reads.specs.Bits.{zeros};
 ghost use Rattle.reads.specs.Runs.{Ran};
+ghost use Rattle.bit_matrix.specs.Shape.{size, Limits, Image};
 ghost use Rattle.bit_matrix.specs.Pixels.{offset, pixel, outOfRange, tryGet, onesOf};
 ghost use Rattle.bit_matrix.specs.Area.{column, box, countBlack, tryGetArea};
 ghost use Rattle.bit_matrix.specs.AreaWords.{Counted, threeOf, nineOf, InWords};
+
+// An image's rows, of `row_words` words each, and how many columns and rows it has.
+pub struct Shape {
+    pub row_words: usize,
+    pub width: u32,
+    pub height: u32,
+}
 
 // What `try_get` and `try_get_area` answer: outside the image, or inside, true for black.
 pub enum Sample {
@@ -23,19 +31,19 @@ enum Count {
 }
 
 // The word that holds column x of row y.
-fn get_offset(row_words: usize, y: u32, x: u32) -> usize
-    requires { ⌜ «row_words» < 2 ^ 32 ⌝ }
-    ensures { λ r. ⌜ r ≡ offset «row_words» x y ⌝ }
+fn get_offset(shape: Shape, y: u32, x: u32) -> usize
+    requires { ⌜ Limits shape ⌝ }
+    ensures { λ r. ⌜ r ≡ offset shape x y ⌝ }
 {
-    (y as usize) * row_words + (x as usize) / 64
+    (y as usize) * shape.row_words + (x as usize) / 64
 }
 
 // The pixel at column x of row y. Its bit is marked, unless it lies past the last word: then it is white, and unread.
-pub fn get(words: &[u64], marks: &mut [u64], row_words: usize, x: u32, y: u32) -> bool
-    requires { ⌜ (length (now marks) ≡ length (now words)) × («row_words» < 2 ^ 32) ⌝ }
-    ensures { λ r. ⌜ Ran (pixel «row_words» (length (now (words .entry))) x y) (now (words .entry)) (now (marks .entry)) r (now (marks .exit)) ⌝ }
+pub fn get(words: &[u64], marks: &mut [u64], shape: Shape, x: u32, y: u32) -> bool
+    requires { ⌜ Image shape (now words) (now marks) ⌝ }
+    ensures { λ r. ⌜ Ran (pixel shape x y) (now (words .entry)) (now (marks .entry)) r (now (marks .exit)) ⌝ }
 {
-    let offset = get_offset(row_words, y, x);
+    let offset = get_offset(shape, y, x);
     if offset >= words.len() {
         return false;
     }
@@ -45,54 +53,44 @@ pub fn get(words: &[u64], marks: &mut [u64], row_words: usize, x: u32, y: u32) -
 }
 
 // True when the pixel lies OUT of range, past the last word.
-pub fn check_in_bounds(words: &[u64], row_words: usize, x: u32, y: u32) -> bool
-    requires { ⌜ «row_words» < 2 ^ 32 ⌝ }
-    ensures { λ r. ⌜ r ≡ outOfRange «row_words» (length (now (words .entry))) x y ⌝ }
+pub fn check_in_bounds(words: &[u64], shape: Shape, x: u32, y: u32) -> bool
+    requires { ⌜ Limits shape × (length (now words) ≡ size shape) ⌝ }
+    ensures { λ r. ⌜ r ≡ outOfRange shape x y ⌝ }
 {
-    get_offset(row_words, y, x) >= words.len()
+    get_offset(shape, y, x) >= words.len()
 }
 
 // The pixel at column x of row y, or none outside the width or height, where nothing is read.
-pub fn try_get(
-    words: &[u64],
-    marks: &mut [u64],
-    row_words: usize,
-    width: u32,
-    height: u32,
-    x: u32,
-    y: u32,
-) -> Sample
-    requires { ⌜ (length (now marks) ≡ length (now words)) × («row_words» < 2 ^ 32) ⌝ }
-    ensures { λ r. ⌜ Ran (tryGet «row_words» (length (now (words .entry))) width height x y) (now (words .entry)) (now (marks .entry)) r (now (marks .exit)) ⌝ }
+pub fn try_get(words: &[u64], marks: &mut [u64], shape: Shape, x: u32, y: u32) -> Sample
+    requires { ⌜ Image shape (now words) (now marks) ⌝ }
+    ensures { λ r. ⌜ Ran (tryGet shape x y) (now (words .entry)) (now (marks .entry)) r (now (marks .exit)) ⌝ }
 {
-    if x >= width {
+    if x >= shape.width {
         return Sample::Outside;
     }
-    if y >= height {
+    if y >= shape.height {
         return Sample::Outside;
     }
-    Sample::Inside(get(words, marks, row_words, x, y))
+    Sample::Inside(get(words, marks, shape, x, y))
 }
 
 // `black`, and one more for each black pixel of column x from row `from` up to, not including, row `to`. The first that lies outside ends it.
 fn count_column(
     words: &[u64],
     marks: &mut [u64],
-    row_words: usize,
-    width: u32,
-    height: u32,
+    shape: Shape,
     x: u32,
     from: u32,
     to: u32,
     black: u32,
 ) -> Count
-    requires { ⌜ (length (now marks) ≡ length (now words)) × («row_words» < 2 ^ 32) × (black + (to - from) < 2 ^ 32) ⌝ }
-    ensures { λ r. ⌜ Ran (countBlack «row_words» (length (now (words .entry))) width height (column x from to) black) (now (words .entry)) (now (marks .entry)) r (now (marks .exit)) ⌝ }
+    requires { ⌜ Image shape (now words) (now marks) × (black + (to - from) < 2 ^ 32) ⌝ }
+    ensures { λ r. ⌜ Ran (countBlack shape (column x from to) black) (now (words .entry)) (now (marks .entry)) r (now (marks .exit)) ⌝ }
 {
     let mut count = black;
     let mut y = from;
     while y < to {
-        let sample = try_get(words, marks, row_words, width, height, x, y);
+        let sample = try_get(words, marks, shape, x, y);
         match sample {
             Sample::Outside => {
                 return Count::Outside;
@@ -110,21 +108,19 @@ fn count_column(
 fn count_box(
     words: &[u64],
     marks: &mut [u64],
-    row_words: usize,
-    width: u32,
-    height: u32,
+    shape: Shape,
     left: u32,
     right: u32,
     from: u32,
     to: u32,
 ) -> Count
-    requires { ⌜ (length (now marks) ≡ length (now words)) × («row_words» < 2 ^ 32) × (right ≤ left + 3) × (to ≤ from + 3) ⌝ }
-    ensures { λ r. ⌜ Ran (countBlack «row_words» (length (now (words .entry))) width height (box left right from to) 0) (now (words .entry)) (now (marks .entry)) r (now (marks .exit)) ⌝ }
+    requires { ⌜ Image shape (now words) (now marks) × (right ≤ left + 3) × (to ≤ from + 3) ⌝ }
+    ensures { λ r. ⌜ Ran (countBlack shape (box left right from to) 0) (now (words .entry)) (now (marks .entry)) r (now (marks .exit)) ⌝ }
 {
     let mut black = 0u32;
     let mut x = left;
     while x < right {
-        let count = count_column(words, marks, row_words, width, height, x, from, to, black);
+        let count = count_column(words, marks, shape, x, from, to, black);
         match count {
             Count::Outside => {
                 return Count::Outside;
@@ -146,31 +142,13 @@ fn predecessor(n: u32) -> u32
 }
 
 // The area of `try_get_area`, pixel by pixel.
-fn area_by_pixels(
-    words: &[u64],
-    marks: &mut [u64],
-    row_words: usize,
-    width: u32,
-    height: u32,
-    x: u32,
-    y: u32,
-) -> Sample
-    requires { ⌜ (length (now marks) ≡ length (now words)) × («row_words» < 2 ^ 32) × (x ≤ 2048) × (y ≤ 2048) ⌝ }
-    ensures { λ r. ⌜ Ran (tryGetArea «row_words» (length (now (words .entry))) width height x y) (now (words .entry)) (now (marks .entry)) r (now (marks .exit)) ⌝ }
+fn area_by_pixels(words: &[u64], marks: &mut [u64], shape: Shape, x: u32, y: u32) -> Sample
+    requires { ⌜ Image shape (now words) (now marks) × (x ≤ 2048) × (y ≤ 2048) ⌝ }
+    ensures { λ r. ⌜ Ran (tryGetArea shape x y) (now (words .entry)) (now (marks .entry)) r (now (marks .exit)) ⌝ }
 {
     let left = predecessor(x);
     let from = predecessor(y);
-    let count = count_box(
-        words,
-        marks,
-        row_words,
-        width,
-        height,
-        left,
-        x + 2,
-        from,
-        y + 2,
-    );
+    let count = count_box(words, marks, shape, left, x + 2, from, y + 2);
     match count {
         Count::Outside => Sample::Outside,
         Count::Black(black) => Sample::Inside(2 * black >= (x + 2 - left) * (y + 2 - from)),
@@ -178,9 +156,9 @@ fn area_by_pixels(
 }
 
 // Whether the nine pixels about (x, y) lie inside, and in each row the three in one stored word.
-fn in_words(size: usize, row_words: usize, width: u32, height: u32, x: u32, y: u32) -> bool
-    requires { ⌜ («row_words» < 2 ^ 32) × (x ≤ 2048) × (y ≤ 2048) ⌝ }
-    ensures { λ r. ⌜ (r ≡ true → InWords size «row_words» width height x y) ⌝ }
+fn in_words(shape: Shape, x: u32, y: u32) -> bool
+    requires { ⌜ (x ≤ 2048) × (y ≤ 2048) ⌝ }
+    ensures { λ r. ⌜ (r ≡ true → InWords shape x y) ⌝ }
 {
     if x < 1 {
         return false;
@@ -188,24 +166,21 @@ fn in_words(size: usize, row_words: usize, width: u32, height: u32, x: u32, y: u
     if y < 1 {
         return false;
     }
-    if x + 1 >= width {
+    if x + 1 >= shape.width {
         return false;
     }
-    if y + 1 >= height {
+    if y + 1 >= shape.height {
         return false;
     }
-    if (x - 1) % 64 > 61 {
-        return false;
-    }
-    get_offset(row_words, y + 1, x - 1) < size
+    (x - 1) % 64 <= 61
 }
 
 // The black pixels of columns x to x + 2 of row y, which lie in one word.
-fn count_three(words: &[u64], marks: &mut [u64], row_words: usize, x: u32, y: u32) -> u64
-    requires { ⌜ (length (now marks) ≡ length (now words)) × («row_words» < 2 ^ 32) × (3 + x % 64 ≤ 64) × (offset «row_words» x y < length (now words)) ⌝ }
-    ensures { λ r. ⌜ Counted (now (words .entry)) (now (marks .entry)) (threeOf «row_words» x y) r (now (marks .exit)) ⌝ }
+fn count_three(words: &[u64], marks: &mut [u64], shape: Shape, x: u32, y: u32) -> u64
+    requires { ⌜ Image shape (now words) (now marks) × (3 + x % 64 ≤ 64) × (offset shape x y < length (now words)) ⌝ }
+    ensures { λ r. ⌜ Counted (now (words .entry)) (now (marks .entry)) (threeOf shape x y) r (now (marks .exit)) ⌝ }
 {
-    let offset = get_offset(row_words, y, x);
+    let offset = get_offset(shape, y, x);
     let shift = x % 64;
     marks[offset] |= 7u64 << shift;
     let three = words[offset] >> shift;
@@ -213,40 +188,32 @@ fn count_three(words: &[u64], marks: &mut [u64], row_words: usize, x: u32, y: u3
 }
 
 // The same of rows y to y + 2.
-fn count_nine(words: &[u64], marks: &mut [u64], row_words: usize, x: u32, y: u32) -> u64
-    requires { ⌜ (length (now marks) ≡ length (now words)) × («row_words» < 2 ^ 32) × (3 + x % 64 ≤ 64) × (y ≤ 2048) × (offset «row_words» x (y + 2) < length (now words)) ⌝ }
-    ensures { λ r. ⌜ Counted (now (words .entry)) (now (marks .entry)) (nineOf «row_words» x y) r (now (marks .exit)) ⌝ }
+fn count_nine(words: &[u64], marks: &mut [u64], shape: Shape, x: u32, y: u32) -> u64
+    requires { ⌜ Image shape (now words) (now marks) × (3 + x % 64 ≤ 64) × (y ≤ 2048) × (offset shape x (y + 2) < length (now words)) ⌝ }
+    ensures { λ r. ⌜ Counted (now (words .entry)) (now (marks .entry)) (nineOf shape x y) r (now (marks .exit)) ⌝ }
 {
-    let first = count_three(words, marks, row_words, x, y);
-    let second = count_three(words, marks, row_words, x, y + 1);
-    let third = count_three(words, marks, row_words, x, y + 2);
+    let first = count_three(words, marks, shape, x, y);
+    let second = count_three(words, marks, shape, x, y + 1);
+    let third = count_three(words, marks, shape, x, y + 2);
     first + second + third
 }
 
 // The pixels about (x, y), cut at 0, with box size 3: black when at least half of them are. Past the width or height the first of them is outside already.
-pub fn try_get_area(
-    words: &[u64],
-    marks: &mut [u64],
-    row_words: usize,
-    width: u32,
-    height: u32,
-    x: u32,
-    y: u32,
-) -> Sample
-    requires { ⌜ (length (now marks) ≡ length (now words)) × («row_words» < 2 ^ 32) × (width ≤ 2048) × (height ≤ 2048) ⌝ }
-    ensures { λ r. ⌜ Ran (tryGetArea «row_words» (length (now (words .entry))) width height x y) (now (words .entry)) (now (marks .entry)) r (now (marks .exit)) ⌝ }
+pub fn try_get_area(words: &[u64], marks: &mut [u64], shape: Shape, x: u32, y: u32) -> Sample
+    requires { ⌜ Image shape (now words) (now marks) ⌝ }
+    ensures { λ r. ⌜ Ran (tryGetArea shape x y) (now (words .entry)) (now (marks .entry)) r (now (marks .exit)) ⌝ }
 {
-    if x > width {
+    if x > shape.width {
         return Sample::Outside;
     }
-    if y > height {
+    if y > shape.height {
         return Sample::Outside;
     }
-    if in_words(words.len(), row_words, width, height, x, y) {
-        let black = count_nine(words, marks, row_words, x - 1, y - 1);
+    if in_words(shape, x, y) {
+        let black = count_nine(words, marks, shape, x - 1, y - 1);
         return Sample::Inside(2 * black >= 9);
     }
-    area_by_pixels(words, marks, row_words, width, height, x, y)
+    area_by_pixels(words, marks, shape, x, y)
 }
 
 // All marks cleared.

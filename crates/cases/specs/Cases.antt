@@ -1,15 +1,18 @@
 -- Document 01, "Near pairs", as one table: a field for each case, in the order there, that says what a step's definition gives. `cases` proves the table, by
 -- computation. Assumes nothing.
-use Prim.Native.Nat.{ℕ, _+_, _*_, _^_}
+use Prim.Native.Nat.{ℕ, _+_, _*_, _/_, _%_, _^_}
 use mathlib.Core.Bool.{true, false}
 use mathlib.Core.List.{List, [], _∷_, _++_, map, flatMap}
 use mathlib.Core.Path.{_≡_, refl}
+use lib.Count.{ones}
+use lib.Dec.{eqb}
 use lib.ListN.{set, replicate}
 use lib.Ieee.{toSigned}
 use Rattle.ieee.specs.Integral.{floor}
 use Rattle.reads.specs.Reads.{_>>=_, value}
 use Rattle.reads.specs.Bits.{testBit, bitAt, range}
 use Rattle.reads.specs.Runs.{valueOf}
+use Rattle.bit_matrix.specs.Shape.{shapeOf}
 use Rattle.bit_matrix.specs.Pixels.{pixel, tryGet}
 use Rattle.bit_matrix.specs.Area.{countBlack, tryGetArea}
 use Rattle.bit_matrix.specs.declared.Sample.{Sample}
@@ -27,7 +30,7 @@ use Rattle.detector_boundary.specs.Size.{idealSide, guessedSize, plainSize}
 use Rattle.detector_boundary.specs.Boundary.{leftShift, rightShift, boundaryOf, plainBoundary}
 use Rattle.detector_boundary.specs.declared.Boundary.{Boundary}
 use Rattle.detector_points.specs.Orientation.{point, adjustedPoint}
-use Rattle.detector_turn.specs.Outcomes.{classOf}
+use Rattle.detector_turn.specs.Outcomes.{quarterOf}
 
 -- eleven runs of one length
 abbrev pub equal : ℕ → List ℕ
@@ -35,11 +38,22 @@ equal run = replicate 11 run
 
 -- the first window of row 6, of 33 columns and rows of one word each, where the row has six black pixels, one white one between two, the first at a column
 abbrev pub windowOf : ℕ → Bullseye
-windowOf first = valueOf (nextBullseye 1 33 33 6 6) (replicate 6 0 ++ 0x555 * 2 ^ first ∷ replicate 26 0)
+windowOf first = valueOf (nextBullseye (shapeOf 33 33) 6 6) (replicate 6 0 ++ 0x555 * 2 ^ first ∷ replicate 26 0)
 
 -- the area at a pixel, of 33 columns and rows of one word each; the list gives the first rows, and the others are white
 abbrev pub areaAt : ℕ → ℕ → List ℕ → Sample
-areaAt x y words = valueOf (tryGetArea 1 33 33 33 x y) words
+areaAt x y words = valueOf (tryGetArea (shapeOf 33 33) x y) words
+
+-- the numbers below n with so many one bits: arrangements of black pixels, a bit each
+abbrev pub withOnes : ℕ → ℕ → List ℕ
+withOnes count n = filter (λ (a : ℕ). eqb (ones a) count) (range 0 n)
+
+-- an arrangement of four pixels at (0, 0), two in a row, and of nine about (1, 1), three in a row
+abbrev pub areaOfFour : ℕ → Sample
+areaOfFour a = areaAt 0 0 (a % 2 ^ 2 ∷ a / 2 ^ 2 ∷ [])
+
+abbrev pub areaOfNine : ℕ → Sample
+areaOfNine a = areaAt 1 1 (a % 2 ^ 3 ∷ a / 2 ^ 3 % 2 ^ 3 ∷ a / 2 ^ 6 ∷ [])
 
 -- the candidates within the deviation
 abbrev pub keptOf : List Record → List Record
@@ -53,34 +67,34 @@ pub record Cases : Type 0 where
   -- eleven runs
   pub runs-all-1 : validWidths (equal 1) ≡ true
   pub even-run-1-among-2s : map (λ k. validWidths (set (equal 2) k 1)) (0 ∷ 2 ∷ 4 ∷ 6 ∷ 8 ∷ 10 ∷ []) ≡ replicate 6 false
-  pub odd-runs-3-2-2-2 : validWidths (2 ∷ 3 ∷ replicate 9 2) ≡ false
+  pub odd-runs-3-2-2-2 : map (λ k. validWidths (set (equal 2) k 3)) (1 ∷ 3 ∷ 7 ∷ 9 ∷ []) ≡ replicate 4 false
   -- width 33, runs of one pixel
   pub runs-from-15 : windowOf 15 ≡ record { found = true; center = 20; radius = 6; buckets = equal 1 }
   pub runs-from-16 : windowOf 16 ≡ none
-  -- areas; of the rows' words, column 0 is the last digit
-  pub two-of-four : areaAt 0 0 (0b01 ∷ 0b01 ∷ []) ≡ Inside true
-  pub one-of-four : areaAt 0 0 (0b01 ∷ 0b00 ∷ []) ≡ Inside false
-  pub five-of-nine : areaAt 1 1 (0b111 ∷ 0b010 ∷ 0b001 ∷ []) ≡ Inside true
-  pub four-of-nine : areaAt 1 1 (0b111 ∷ 0b000 ∷ 0b001 ∷ []) ≡ Inside false
+  -- areas, in every arrangement
+  pub two-of-four : map areaOfFour (withOnes 2 (2 ^ 4)) ≡ replicate 6 (Inside true)
+  pub one-of-four : map areaOfFour (withOnes 1 (2 ^ 4)) ≡ replicate 4 (Inside false)
+  pub five-of-nine : map areaOfNine (withOnes 5 (2 ^ 9)) ≡ replicate 126 (Inside true)
+  pub four-of-nine : map areaOfNine (withOnes 4 (2 ^ 9)) ≡ replicate 126 (Inside false)
   -- row and column runs
   pub runs-all-10 : variance (equal 10) (equal 10) ≡ real 10
   -- three candidates by their centres, whatever their other words a, b and d: the deviation of y is the root of 8 / 3, 1
   pub second-kept : (a b d : List ℕ) → keptOf ((50 ∷ 20 ∷ a) ∷ (50 ∷ 22 ∷ b) ∷ (50 ∷ 24 ∷ d) ∷ []) ≡ (50 ∷ 22 ∷ b) ∷ []
   -- radius 6; about (60, 60) in 120 by 120
   pub radius-6-size : plainSize 6 ≡ record { width = 42; height = 42 }
-  pub radius-6-boundary : plainBoundary 120 120 60 60 6 ≡ record { left = 41; right = 82; top = 81; bottom = 39 }
+  pub radius-6-boundary : plainBoundary (shapeOf 120 120) (point 60 60) 6 ≡ record { left = 41; right = 82; top = 81; bottom = 39 }
   -- with the bottom at 50 the row is past the cap
   pub bottom-0 : adjustedPoint (raised 0) (point 10 9) ≡ point 22 19
   pub bottom-50 : adjustedPoint (raised 50) (point 10 9) ≡ point 22 65
   -- classes of turns: the one line there without a P
-  pub turn-44 : classOf 44 ≡ 0
-  pub turn-46 : classOf 46 ≡ 1
-  pub turn-348 : classOf 348 ≡ 0
+  pub turn-44 : quarterOf 44 ≡ 0
+  pub turn-46 : quarterOf 46 ≡ 1
+  pub turn-348 : quarterOf 348 ≡ 0
 
 pub cases : Cases
-unfolding toSigned floor _>>=_ value testBit bitAt range valueOf flatMap pixel tryGet countBlack tryGetArea
+unfolding ones toSigned floor _>>=_ value testBit bitAt range valueOf flatMap pixel tryGet countBlack tryGetArea
     evenRunsPass oddRunsPass validWidths bump total metadata skipWhite windowBy nextBullseyeBy
-    variance filter spread near idealSide guessedSize leftShift rightShift boundaryOf adjustedPoint classOf
+    variance filter spread near idealSide guessedSize leftShift rightShift boundaryOf adjustedPoint quarterOf
 cases = record {
   runs-all-1 = refl;
   even-run-1-among-2s = refl;

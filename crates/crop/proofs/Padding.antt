@@ -8,9 +8,35 @@ use mathlib.Core.Path.{_≡_, refl, sym, ap₂, ap, subst, _∙_}
 use lib.ListN.{getD}
 use lib.Pow.{shr-lt}
 use Rattle.reads.specs.Bits.{testBit, bitAt}
-use Rattle.crop.specs.Crop.{rowBytes, rowWords, fileBit, wordBit, rowPadded}
-use Rattle.crop.specs.AnyLaws.{none-holds, none-below}
+use Rattle.bit_matrix.specs.Shape.{rowWords}
+use Rattle.crop.specs.Crop.{rowBytes, fileBit, wordBit, rowPadded}
+use Rattle.crop.specs.Below.{anyBelow}
+use Rattle.crop.specs.AnyLaws.{any-none, any-more, any-found, none-holds, none-below}
 use Rattle.crop.specs.NumberLaws.{low-clear, clear-low, test-shr}
+
+-- ---- a loop over the rows: none of those before row y is padded
+
+pub record Passed (padded : ℕ → Bool) (rows y : ℕ) : Type 0 where
+  pub most : y ≤ rows
+  pub none : anyBelow padded y ≡ false
+
+module _ (padded : ℕ → Bool) {rows : ℕ} where
+  pub passed-none : Passed padded rows 0
+  passed-none = record { most = omega arith; none = any-none padded }
+
+  module _ {y : ℕ} where
+    pub passed-more : Passed padded rows y → y < rows → padded y ≡ false → Passed padded rows (y + 1)
+    passed-more before here clean = record { most = omega arith; none = any-more padded clean (before .none) }
+
+    pub passed-found : y < rows → padded y ≡ true → true ≡ anyBelow padded rows
+    passed-found here set = sym (any-found padded rows here set)
+
+    pub passed-all : Passed padded rows y → rows ≤ y → false ≡ anyBelow padded rows
+    passed-all before past =
+        let all : y ≡ rows = omega (arith, before .most) in
+        sym (ap (anyBelow padded) (sym all) ∙ before .none)
+
+-- ---- a row
 
 -- a row whose padding bits are the n lowest bits of a number m, in some order
 module _ (bit : ℕ → ℕ → Bool) (w end y m : ℕ) (place : ℕ → ℕ)

@@ -7,23 +7,23 @@ use mathlib.Core.Path.{_≡_}
 use lib.Dec.{ltb, eqb}
 use lib.ListN.{length, getD}
 use Rattle.reads.specs.Bits.{testBit, bitAt}
+use Rattle.bit_matrix.specs.declared.Shape.{Shape}
+use Rattle.bit_matrix.specs.Shape.{rowWords, shapeOf, size, Limits, Image}
 use Rattle.crop.specs.Below.{anyBelow}
+use Rattle.crop.specs.declared.Checked.{Checked}
 
 -- ---- sizes
 
--- a row's bytes in a file: ceil(w / 8); and its words in memory: ceil(w / 64)
+-- a row's bytes in a file: ceil(w / 8)
 abbrev pub rowBytes : ℕ → ℕ
 rowBytes w = (w + 7) / 8
-
-abbrev pub rowWords : ℕ → ℕ
-rowWords w = (w + 63) / 64
 
 -- the lengths of a whole file in bytes, and of a whole image in words
 abbrev pub fileLength : ℕ → ℕ → ℕ
 fileLength w h = 4 + rowBytes w * h
 
 abbrev pub imageWords : ℕ → ℕ → ℕ
-imageWords w h = rowWords w * h
+imageWords w h = size (shapeOf w h)
 
 -- ---- a file
 
@@ -44,9 +44,12 @@ height file = header file / 2 ^ 4 % 2 ^ 12
 abbrev pub lastBits : List ℕ → ℕ
 lastBits file = header file % 2 ^ 4
 
--- the words of its image
+-- the shape of its image, and the words
+abbrev pub fileShape : List ℕ → Shape
+fileShape file = shapeOf (width file) (height file)
+
 abbrev pub fileWords : List ℕ → ℕ
-fileWords file = imageWords (width file) (height file)
+fileWords file = size (fileShape file)
 
 -- ---- the stored bit of a column, padding included
 
@@ -60,20 +63,17 @@ wordBit words w c y = bitAt words ((y * rowWords w + c / 64) * 64 + c % 64)
 
 -- ---- the conditions
 
--- 1: under 4 bytes, another kind, or last header bits that are not zero
-abbrev pub badHeader : List ℕ → Bool
-badHeader file = ltb (length file) 4 || not (eqb (kind file) 1) || not (eqb (lastBits file) 0)
+-- 1: under 4 bytes, another kind than k, or last header bits that are not zero
+abbrev pub badHeader : ℕ → List ℕ → Bool
+badHeader k file = ltb (length file) 4 || not (eqb (kind file) k) || not (eqb (lastBits file) 0)
 
--- 2: width or height outside 33 to 2,048
-abbrev pub outside : ℕ → Bool
-outside n = ltb n 33 || ltb 2048 n
-
-abbrev pub badSize : ℕ → ℕ → Bool
-badSize w h = outside w || outside h
+-- 2: a side outside the least one to 2,048
+abbrev pub outside : ℕ → ℕ → Bool
+outside least n = ltb n least || ltb 2048 n
 
 -- 3: more than 8,000 words
-abbrev pub tooLarge : ℕ → ℕ → Bool
-tooLarge w h = ltb 8000 (imageWords w h)
+abbrev pub tooLarge : Shape → Bool
+tooLarge shape = ltb 8000 (size shape)
 
 -- 4 and 6: a length other than the one needed
 abbrev pub misfit : ℕ → ℕ → Bool
@@ -95,78 +95,93 @@ noRecord records = ltb records 40
 
 -- ---- the first number whose condition holds, or 0
 
--- of dimensions: 2 and 3
-unfoldable pub sizeRefusal : ℕ → ℕ → ℕ
-sizeRefusal w h =
-    cond (badSize w h) 2
-    (cond (tooLarge w h) 3
-    0)
-
--- of a file: 1 to 5
-unfoldable pub refusal : List ℕ → ℕ
-refusal file =
-    cond (badHeader file) 1
-    (cond (badSize (width file) (height file)) 2
-    (cond (tooLarge (width file) (height file)) 3
-    (cond (misfit (length file) (fileLength (width file) (height file))) 4
-    (cond (filePadded file (width file) (height file)) 5
-    0))))
-
--- of an image in words, with the lengths of the marks and of the record buffer: 2 to 6
-unfoldable pub wordsRefusal : List ℕ → ℕ → ℕ → ℕ → ℕ → ℕ
-wordsRefusal words w h marks records =
-    cond (badSize w h) 2
-    (cond (tooLarge w h) 3
-    (cond (misfit (length words) (imageWords w h)) 4
-    (cond (wordsPadded words w h) 5
-    (cond (misfit marks (imageWords w h) || noRecord records) 6
-    0))))
-
 -- a number, or the next one where it is 0
 unfoldable pub orElse : ℕ → ℕ → ℕ
 orElse number next = cond (eqb number 0) next number
 
+-- of a shape, with the length given and the one needed: 2 to 4
+unfoldable pub sizeRefusal : ℕ → Shape → ℕ → ℕ → ℕ
+sizeRefusal least shape given needed =
+    cond (outside least (shape .width) || outside least (shape .height)) 2
+    (cond (tooLarge shape) 3
+    (cond (misfit given needed) 4
+    0))
+
+-- of an image, in a file or in words: 2 to 5
+abbrev pub imageRefusal : ℕ → Shape → ℕ → ℕ → Bool → ℕ
+imageRefusal least shape given needed padded = orElse (sizeRefusal least shape given needed) (cond padded 5 0)
+
+-- of the words to unpack into; and of the marks and the record buffer: 6
+unfoldable pub unpackRoom : ℕ → ℕ → ℕ
+unpackRoom needed words = cond (misfit words needed) 6 0
+
+unfoldable pub searchRoom : ℕ → ℕ → ℕ → ℕ
+searchRoom needed marks records = cond (misfit marks needed || noRecord records) 6 0
+
+-- a file's number, or that of the words to unpack into; and then that of the marks and the record buffer: 1 to 6
+abbrev pub unpackAnswer : ℕ → ℕ → ℕ → ℕ
+unpackAnswer number needed words = orElse number (unpackRoom needed words)
+
+abbrev pub fileAnswer : ℕ → ℕ → ℕ → ℕ → ℕ → ℕ
+fileAnswer number needed words marks records = orElse (unpackAnswer number needed words) (searchRoom needed marks records)
+
+-- of a file of kind k: 1 to 5
+unfoldable pub refusalOf : ℕ → ℕ → List ℕ → ℕ
+refusalOf k least file =
+    cond (badHeader k file) 1
+    (imageRefusal least (fileShape file) (length file) (fileLength (width file) (height file)) (filePadded file (width file) (height file)))
+
+-- of an image in words, with the lengths of the marks and of the record buffer: 2 to 6
+unfoldable pub wordsRefusalOf : ℕ → List ℕ → ℕ → ℕ → ℕ → ℕ → ℕ
+wordsRefusalOf least words w h marks records =
+    orElse (imageRefusal least (shapeOf w h) (length words) (imageWords w h) (wordsPadded words w h))
+    (searchRoom (imageWords w h) marks records)
+
+-- ---- the entries: files of kind 1, and sides from 33 on
+
+abbrev pub fileKind : ℕ
+fileKind = 1
+
+abbrev pub leastSide : ℕ
+leastSide = 33
+
+-- of a file: 1 to 5
+abbrev pub refusal : List ℕ → ℕ
+refusal = refusalOf fileKind leastSide
+
 -- of a file, with the length of the words to unpack into: 1 to 6
 unfoldable pub unpackRefusal : List ℕ → ℕ → ℕ
-unpackRefusal file words =
-    orElse (refusal file)
-    (cond (misfit words (fileWords file)) 6
-    0)
+unpackRefusal file words = unpackAnswer (refusal file) (fileWords file) words
 
 -- of a file, with the lengths of the words to unpack into, of the marks and of the record buffer: 1 to 6
 unfoldable pub fileRefusal : List ℕ → ℕ → ℕ → ℕ → ℕ
-fileRefusal file words marks records =
-    orElse (refusal file)
-    (cond (misfit words (fileWords file) || misfit marks (fileWords file) || noRecord records) 6
-    0)
+fileRefusal file words marks records = fileAnswer (refusal file) (fileWords file) words marks records
 
--- ---- what holds where none does
+-- of an image in words, with the lengths of the marks and of the record buffer: 2 to 6
+abbrev pub wordsRefusal : List ℕ → ℕ → ℕ → ℕ → ℕ → ℕ
+wordsRefusal = wordsRefusalOf leastSide
 
--- of dimensions
-pub record Within (w h : ℕ) : Type 0 where
-  pub width-least : 33 ≤ w
-  pub width-most : w ≤ 2048
-  pub height-least : 33 ≤ h
-  pub height-most : h ≤ 2048
-  pub words-most : imageWords w h ≤ 8000
+-- what the check of a file gives: its number, and its image's shape, or that of no image where it is refused
+pub record Checks (file : List ℕ) (r : Checked) : Type 0 where
+  pub answer : r .answer ≡ refusal file
+  pub shape : r .shape ≡ cond (eqb (r .answer) 0) (fileShape file) (shapeOf 0 0)
 
--- of a file with these dimensions
-pub record FileAccepted (file : List ℕ) (w h : ℕ) : Type 0 where
-  pub within : Within w h
-  pub size : length file ≡ fileLength w h
-  pub clean : filePadded file w h ≡ false
+-- ---- what holds where there is no number
 
--- of an image in words, with the lengths of the marks and of the record buffer
-pub record WordsAccepted (words : List ℕ) (w h marks records : ℕ) : Type 0 where
-  pub within : Within w h
-  pub size : length words ≡ imageWords w h
-  pub clean : wordsPadded words w h ≡ false
-  pub marks-size : marks ≡ imageWords w h
-  pub room : 40 ≤ records
+-- of a file with an image of this shape
+pub record FileAccepted (shape : Shape) (file : List ℕ) : Type 0 where
+  pub limits : Limits shape
+  pub long : length file ≡ fileLength (shape .width) (shape .height)
+  pub clean : filePadded file (shape .width) (shape .height) ≡ false
 
--- of a file with these dimensions, and the lengths of the words to unpack into, of the marks and of the record buffer
-pub record FileReady (file : List ℕ) (w h words marks records : ℕ) : Type 0 where
-  pub accepted : FileAccepted file w h
-  pub words-size : words ≡ imageWords w h
-  pub marks-size : marks ≡ imageWords w h
-  pub room : 40 ≤ records
+-- of an image in words, with the marks and the record buffer
+pub record WordsAccepted (shape : Shape) (words marks records : List ℕ) : Type 0 where
+  pub image : Image shape words marks
+  pub clean : wordsPadded words (shape .width) (shape .height) ≡ false
+  pub room : 40 ≤ length records
+
+-- of a file with an image of this shape, with the words to unpack into, the marks and the record buffer
+pub record FileReady (shape : Shape) (file words marks records : List ℕ) : Type 0 where
+  pub accepted : FileAccepted shape file
+  pub image : Image shape words marks
+  pub room : 40 ≤ length records

@@ -6,7 +6,9 @@ use mathlib.Core.Path.{_≡_}
 use lib.Dec.{eqb, ltb}
 use lib.ListN.{length}
 use Rattle.crop.specs.Below.{firsts, number}
-use Rattle.crop.specs.Crop.{rowWords, imageWords, width, height, fileBit, unpackRefusal}
+use Rattle.bit_matrix.specs.declared.Shape.{Shape}
+use Rattle.bit_matrix.specs.Shape.{rowWords, size}
+use Rattle.crop.specs.Crop.{fileShape, fileBit, unpackRefusal}
 
 -- the pixel at column c of row y, true for black; past the width it is white
 unfoldable pub pixelOf : List ℕ → ℕ → ℕ → ℕ → Bool
@@ -16,13 +18,13 @@ pixelOf file w c y = cond (ltb c w) (fileBit file w c y) false
 unfoldable pub wordOf : List ℕ → ℕ → ℕ → ℕ
 wordOf file w i = number (λ k. pixelOf file w (i % rowWords w * 64 + k) (i / rowWords w)) 64
 
--- all words of an image with these dimensions
-abbrev pub unpacked : List ℕ → ℕ → ℕ → List ℕ
-unpacked file w h = firsts (wordOf file w) (imageWords w h)
+-- all words of an image of this shape
+abbrev pub unpacked : List ℕ → Shape → List ℕ
+unpacked file shape = firsts (wordOf file (shape .width)) (size shape)
 
 -- all words of a file, by its header
 abbrev pub image : List ℕ → List ℕ
-image file = unpacked file (width file) (height file)
+image file = unpacked file (fileShape file)
 
 -- the answer r, and the lent words afterwards: those of the image when the answer is 0, else as they were
 pub record Unpacks (file words : List ℕ) (r : ℕ) (after : List ℕ) : Type 0 where

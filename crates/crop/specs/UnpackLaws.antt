@@ -3,31 +3,33 @@ use Prim.Native.Nat.{ℕ, _+_, _*_, _-_, _/_, _%_, _≤_, _<_}
 use native.Mathlib.Omega.{arith}
 use mathlib.Core.Bool.{Bool, false, cond}
 use mathlib.Core.List.{List}
-use mathlib.Core.Path.{_≡_, ap, ap₂, _∙_}
+use mathlib.Core.Path.{_≡_, refl, ap, ap₂, _∙_}
 use borrow.Author.Tests.{le-ltb}
 use lib.Arith.{digits-div, digits-mod, digits-lt}
 use lib.ListN.{length, getD}
 use Rattle.reads.specs.Bits.{testBit, bitAt}
 use Rattle.crop.specs.Below.{number}
-use Rattle.crop.specs.Crop.{rowWords, imageWords, fileBit, wordBit, rowPadded, wordsPadded, wordsRefusal, Within}
-use Rattle.crop.specs.Chain.{chain}
+use Rattle.bit_matrix.specs.declared.Shape.{Shape}
+use Rattle.bit_matrix.specs.Shape.{rowWords, shapeOf, size, Limits}
+use Rattle.crop.specs.Crop.{imageWords, fileBit, wordBit, rowPadded, wordsPadded, sizeRefusal, searchRoom, wordsRefusalOf, wordsRefusal}
+use Rattle.crop.specs.Chain.{chain, else-next}
 use Rattle.crop.specs.AnyLaws.{none-below}
 use Rattle.crop.specs.NumberLaws.{test-number}
 use Rattle.crop.specs.FirstsLaws.{length-firsts, getD-firsts}
 use Rattle.crop.specs.Unpack.{pixelOf, wordOf, unpacked}
 
-module _ (file : List ℕ) (w h : ℕ) where
-  -- as many words as the image has
-  pub length-unpacked : length (unpacked file w h) ≡ imageWords w h
-  length-unpacked = length-firsts (wordOf file w) (imageWords w h)
+-- as many words as the image has
+pub length-unpacked : (file : List ℕ) (shape : Shape) → length (unpacked file shape) ≡ size shape
+length-unpacked file shape = length-firsts (wordOf file (shape .width)) (size shape)
 
+module _ (file : List ℕ) (w h : ℕ) where
   -- word x of row y
   pub word-at : (x y : ℕ) → x < rowWords w → wordOf file w (y * rowWords w + x) ≡ number (λ k. pixelOf file w (x * 64 + k) y) 64
   unfolding wordOf
   word-at x y column = ap₂ (λ (q r : ℕ). number (λ k. pixelOf file w (r * 64 + k) q) 64) (digits-div y {r = x} column) (digits-mod y {r = x} column)
 
   -- the stored bit of column c of row y
-  pub pixel-stored : (c y : ℕ) → c < 64 * rowWords w → y < h → wordBit (unpacked file w h) w c y ≡ pixelOf file w c y
+  pub pixel-stored : (c y : ℕ) → c < 64 * rowWords w → y < h → wordBit (unpacked file (shapeOf w h)) w c y ≡ pixelOf file w c y
   unfolding bitAt
   pixel-stored c y column row =
       let below : c / 64 < rowWords w = omega arith in
@@ -35,20 +37,24 @@ module _ (file : List ℕ) (w h : ℕ) where
       let word : ((y * rowWords w + c / 64) * 64 + c % 64) / 64 ≡ y * rowWords w + c / 64 = omega arith in
       let place : ((y * rowWords w + c / 64) * 64 + c % 64) % 64 ≡ c % 64 = omega arith in
       let again : c / 64 * 64 + c % 64 ≡ c = omega arith in
-      ap₂ (λ (q r : ℕ). testBit (getD (unpacked file w h) q 0) r) word place
+      ap₂ (λ (q r : ℕ). testBit (getD (unpacked file (shapeOf w h)) q 0) r) word place
       ∙ ap (λ (v : ℕ). testBit v (c % 64)) (getD-firsts (wordOf file w) (imageWords w h) stored ∙ word-at (c / 64) y below)
       ∙ test-number (λ k. pixelOf file w (c / 64 * 64 + k) y) 64 (c % 64) (omega arith)
       ∙ ap (λ (n : ℕ). pixelOf file w n y) again
 
   -- no padding bit is set
-  pub unpacked-clean : wordsPadded (unpacked file w h) w h ≡ false
+  pub unpacked-clean : wordsPadded (unpacked file (shapeOf w h)) w h ≡ false
   unfolding rowPadded pixelOf
   unpacked-clean =
-      none-below (rowPadded (wordBit (unpacked file w h) w) w (64 * rowWords w)) h λ y row.
-      none-below (λ k. wordBit (unpacked file w h) w (w + k) y) (64 * rowWords w - w) λ k spare.
+      none-below (rowPadded (wordBit (unpacked file (shapeOf w h)) w) w (64 * rowWords w)) h λ y row.
+      none-below (λ k. wordBit (unpacked file (shapeOf w h)) w (w + k) y) (64 * rowWords w - w) λ k spare.
       pixel-stored (w + k) y (omega arith) row ∙ ap (λ (b : Bool). cond b (fileBit file w (w + k) y) false) (le-ltb (w + k) w (omega arith))
 
   -- so they pass as an image in words
-  pub unpacked-passes : (marks records : ℕ) → Within w h → marks ≡ imageWords w h → 40 ≤ records → 0 ≡ wordsRefusal (unpacked file w h) w h marks records
-  unfolding wordsRefusal
-  unpacked-passes marks records within same room = search (chain, length-unpacked, unpacked-clean) depth 12
+  pub unpacked-passes : (marks records : ℕ) → Limits (shapeOf w h) → marks ≡ imageWords w h → 40 ≤ records
+      → 0 ≡ wordsRefusal (unpacked file (shapeOf w h)) w h marks records
+  unfolding wordsRefusalOf sizeRefusal searchRoom
+  unpacked-passes marks records limits same room =
+      else-next _
+      (else-next _ (search (chain, length-unpacked file (shapeOf w h)) depth 9) refl (search (chain, unpacked-clean)))
+      refl (search chain depth 9)

@@ -3,10 +3,25 @@ ghost use mathlib.Core.Path.{_≡_};
 ghost use Prim.Native.Nat.{_+_, _*_, _-_, _≤_, _<_, min};
 ghost use lib.ListN.{length};
 ghost use Rattle.reads.specs.Bits.{testBit};
+ghost use Rattle.bit_matrix.specs.Shape.{rowWords, shapeOf, size, Limits};
 ghost use Rattle.crop.specs.Below.{number};
-ghost use Rattle.crop.specs.Crop.{header, width, height, fileLength, imageWords, fileWords, filePadded, wordsPadded, sizeRefusal, refusal, wordsRefusal, fileRefusal, FileAccepted};
+ghost use Rattle.crop.specs.Crop.{header, fileLength, filePadded, wordsPadded, sizeRefusal, searchRoom, unpackAnswer, fileAnswer};
+ghost use Rattle.crop.specs.Crop.{refusal, wordsRefusal, Checks, FileAccepted};
 ghost use Rattle.crop.specs.Bytes.{byteBit, mirrored};
 ghost use Rattle.crop.specs.Unpack.{unpacked, Unpacks};
+use bit_matrix::Shape;
+
+// The kind of a crop file.
+const KIND: u32 = 1;
+
+// The least side of an image.
+pub const LEAST: u32 = 33;
+
+// What the check of a file gives: its number, and its image's shape, or that of no image where the file is refused.
+pub struct Checked {
+    pub answer: u32,
+    pub shape: Shape,
+}
 
 // A byte as a wider number.
 fn wide(byte: u8) -> u32
@@ -23,67 +38,68 @@ fn header(file: &[u8]) -> u32
     ((wide(file[0]) * 256 + wide(file[1])) * 256 + wide(file[2])) * 256 + wide(file[3])
 }
 
-// The width of a file's image, by its header.
-pub fn width(file: &[u8]) -> u32
-    requires { ⌜ 4 ≤ length (now file) ⌝ }
-    ensures { λ r. ⌜ r ≡ width (now (file .entry)) ⌝ }
+// The shape of an image with these dimensions.
+pub fn shape_of(width: u32, height: u32) -> Shape
+    ensures { λ r. ⌜ r ≡ shapeOf width height ⌝ }
 {
-    header(file) / 65536 % 4096
+    Shape {
+        row_words: (width as usize + 63) / 64,
+        width,
+        height,
+    }
 }
 
-// The height of a file's image, by its header.
-pub fn height(file: &[u8]) -> u32
-    requires { ⌜ 4 ≤ length (now file) ⌝ }
-    ensures { λ r. ⌜ r ≡ height (now (file .entry)) ⌝ }
+// The words of an image.
+pub fn image_words(shape: Shape) -> usize
+    requires { ⌜ shape .«row_words» ≡ rowWords (shape .width) ⌝ }
+    ensures { λ r. ⌜ r ≡ size shape ⌝ }
 {
-    header(file) / 16 % 4096
+    shape.row_words * (shape.height as usize)
 }
 
-// The words of an image with these dimensions.
-pub fn image_words(width: u32, height: u32) -> usize
-    ensures { λ r. ⌜ r ≡ imageWords width height ⌝ }
+// The bytes of a file with an image of this shape.
+fn file_length(shape: Shape) -> usize
+    ensures { λ r. ⌜ r ≡ fileLength (shape .width) (shape .height) ⌝ }
 {
-    (width as usize + 63) / 64 * (height as usize)
+    4 + (shape.width as usize + 7) / 8 * (shape.height as usize)
 }
 
-// The words of a file's image, by its header.
-fn file_words(file: &[u8]) -> usize
-    requires { ⌜ 4 ≤ length (now file) ⌝ }
-    ensures { λ r. ⌜ r ≡ fileWords (now (file .entry)) ⌝ }
+// 2, 3 or 4 for a shape, or a length given that is not the one needed, else 0.
+pub fn size_refusal(shape: Shape, least: u32, given: usize, needed: usize) -> u32
+    requires { ⌜ shape .«row_words» ≡ rowWords (shape .width) ⌝ }
+    ensures { λ r. ⌜ r ≡ sizeRefusal least shape given needed ⌝ }
 {
-    image_words(width(file), height(file))
-}
-
-// 2 or 3 for dimensions that are refused, else 0.
-fn size_refusal(width: u32, height: u32) -> u32
-    ensures { λ r. ⌜ r ≡ sizeRefusal width height ⌝ }
-{
-    if width < 33 {
+    let words = image_words(shape);
+    if shape.width < least {
         return 2;
     }
-    if 2048 < width {
+    if 2048 < shape.width {
         return 2;
     }
-    if height < 33 {
+    if shape.height < least {
         return 2;
     }
-    if 2048 < height {
+    if 2048 < shape.height {
         return 2;
     }
-    if 8000 < image_words(width, height) {
+    if 8000 < words {
         return 3;
+    }
+    if given != needed {
+        return 4;
     }
     0
 }
 
 // Whether a padding bit of a file's rows is 1: those are the lowest of a row's last byte.
-fn file_padded(file: &[u8], width: u32, height: u32) -> bool
-    requires { ⌜ (length (now file) ≡ fileLength width height) × (1 ≤ width) × (width < 4096) ⌝ }
-    ensures { λ r. ⌜ r ≡ filePadded (now (file .entry)) width height ⌝ }
+fn file_padded(file: &[u8], shape: Shape) -> bool
+    requires { ⌜ Limits shape × (length (now file) ≡ fileLength (shape .width) (shape .height)) ⌝ }
+    ensures { λ r. ⌜ r ≡ filePadded (now (file .entry)) (shape .width) (shape .height) ⌝ }
 {
-    let row = (width as usize + 7) / 8;
-    let unit = 1u8 << (row * 8 - width as usize);
-    let rows = height as usize;
+    let width = shape.width as usize;
+    let row = (width + 7) / 8;
+    let unit = 1u8 << (row * 8 - width);
+    let rows = shape.height as usize;
     let mut y = 0;
     while y < rows {
         if file[4 + (y * row + (row - 1))] % unit != 0 {
@@ -94,44 +110,15 @@ fn file_padded(file: &[u8], width: u32, height: u32) -> bool
     false
 }
 
-// The first of the numbers 1 to 5 that names what is wrong with a file, or 0.
-pub fn check(file: &[u8]) -> u32
-    ensures { λ r. ⌜ r ≡ refusal (now (file .entry)) ⌝ }
-{
-    if file.len() < 4 {
-        return 1;
-    }
-    let head = header(file);
-    if head / 268435456 != 1 {
-        return 1;
-    }
-    if head % 16 != 0 {
-        return 1;
-    }
-    let width = head / 65536 % 4096;
-    let height = head / 16 % 4096;
-    let needed = 4 + (width as usize + 7) / 8 * (height as usize);
-    let size = size_refusal(width, height);
-    if size != 0 {
-        return size;
-    }
-    if file.len() != needed {
-        return 4;
-    }
-    if file_padded(file, width, height) {
-        return 5;
-    }
-    0
-}
-
 // Whether a padding bit of an image's rows is 1: those are the highest of a row's last word.
-fn words_padded(words: &[u64], width: u32, height: u32) -> bool
-    requires { ⌜ (length (now words) ≡ imageWords width height) × (1 ≤ width) × (width < 4096) ⌝ }
-    ensures { λ r. ⌜ r ≡ wordsPadded (now (words .entry)) width height ⌝ }
+fn words_padded(words: &[u64], shape: Shape) -> bool
+    requires { ⌜ Limits shape × (length (now words) ≡ size shape) ⌝ }
+    ensures { λ r. ⌜ r ≡ wordsPadded (now (words .entry)) (shape .width) (shape .height) ⌝ }
 {
-    let row = (width as usize + 63) / 64;
-    let used = width as usize - (row - 1) * 64;
-    let rows = height as usize;
+    let width = shape.width as usize;
+    let row = shape.row_words;
+    let used = width - (row - 1) * 64;
+    let rows = shape.height as usize;
     let mut y = 0;
     while y < rows {
         if words[y * row + (row - 1)] >> (used - 1) >> 1 != 0 {
@@ -140,6 +127,61 @@ fn words_padded(words: &[u64], width: u32, height: u32) -> bool
         y += 1;
     }
     false
+}
+
+// A file that is refused with a number.
+fn refused(answer: u32) -> Checked
+    ensures { λ r. ⌜ r ≡ record { answer = answer; shape = shapeOf 0 0 } ⌝ }
+{
+    Checked {
+        answer,
+        shape: shape_of(0, 0),
+    }
+}
+
+// The first of the numbers 1 to 5 that names what is wrong with a file, or 0 and the shape of its image.
+pub fn check_file(file: &[u8]) -> Checked
+    ensures { λ r. ⌜ Checks (now (file .entry)) r ⌝ }
+{
+    if file.len() < 4 {
+        return refused(1);
+    }
+    let head = header(file);
+    if head / 268435456 != KIND {
+        return refused(1);
+    }
+    if head % 16 != 0 {
+        return refused(1);
+    }
+    let shape = shape_of(head / 65536 % 4096, head / 16 % 4096);
+    let answer = size_refusal(shape, LEAST, file.len(), file_length(shape));
+    if answer != 0 {
+        return refused(answer);
+    }
+    if file_padded(file, shape) {
+        return refused(5);
+    }
+    Checked { answer: 0, shape }
+}
+
+// The first of the numbers 1 to 5 that names what is wrong with a file, or 0.
+pub fn check(file: &[u8]) -> u32
+    ensures { λ r. ⌜ r ≡ refusal (now (file .entry)) ⌝ }
+{
+    check_file(file).answer
+}
+
+// 6 for marks that differ in length from an image's words, or a record buffer with no room for a record, else 0.
+fn search_room(needed: usize, marks_len: usize, records_len: usize) -> u32
+    ensures { λ r. ⌜ r ≡ searchRoom needed «marks_len» «records_len» ⌝ }
+{
+    if marks_len != needed {
+        return 6;
+    }
+    if records_len < 40 {
+        return 6;
+    }
+    0
 }
 
 // The first of the numbers 2 to 6 that names what is wrong with an image in words, or with the lengths of the marks and of the record buffer, or 0.
@@ -152,46 +194,42 @@ pub fn words_refusal(
 ) -> u32
     ensures { λ r. ⌜ r ≡ wordsRefusal (now (words .entry)) width height «marks_len» «records_len» ⌝ }
 {
-    let needed = image_words(width, height);
-    let answer = size_refusal(width, height);
+    let shape = shape_of(width, height);
+    let needed = image_words(shape);
+    let answer = size_refusal(shape, LEAST, words.len(), needed);
     if answer != 0 {
         return answer;
     }
-    if words.len() != needed {
-        return 4;
-    }
-    if words_padded(words, width, height) {
+    if words_padded(words, shape) {
         return 5;
     }
-    if marks_len != needed {
-        return 6;
+    search_room(needed, marks_len, records_len)
+}
+
+// The number of a file that was checked, or 6 where the words to unpack into differ in length from its image's, or 0.
+fn unpack_refusal(checked: Checked, words_len: usize) -> u32
+    requires { ⌜ checked .shape .«row_words» ≡ rowWords (checked .shape .width) ⌝ }
+    ensures { λ r. ⌜ r ≡ unpackAnswer (checked .answer) (size (checked .shape)) «words_len» ⌝ }
+{
+    if checked.answer != 0 {
+        return checked.answer;
     }
-    if records_len < 40 {
+    if words_len != image_words(checked.shape) {
         return 6;
     }
     0
 }
 
-// The first of the numbers 1 to 6 that names what is wrong with a file, or with the lengths of the words to unpack into, of the marks and of the
-// record buffer, or 0.
-pub fn file_refusal(file: &[u8], words_len: usize, marks_len: usize, records_len: usize) -> u32
-    ensures { λ r. ⌜ r ≡ fileRefusal (now (file .entry)) «words_len» «marks_len» «records_len» ⌝ }
+// The same, or 6 for the lengths of the marks and of the record buffer, or 0.
+pub fn file_refusal(checked: Checked, words_len: usize, marks_len: usize, records_len: usize) -> u32
+    requires { ⌜ checked .shape .«row_words» ≡ rowWords (checked .shape .width) ⌝ }
+    ensures { λ r. ⌜ r ≡ fileAnswer (checked .answer) (size (checked .shape)) «words_len» «marks_len» «records_len» ⌝ }
 {
-    let answer = check(file);
+    let answer = unpack_refusal(checked, words_len);
     if answer != 0 {
         return answer;
     }
-    let needed = file_words(file);
-    if words_len != needed {
-        return 6;
-    }
-    if marks_len != needed {
-        return 6;
-    }
-    if records_len < 40 {
-        return 6;
-    }
-    0
+    search_room(image_words(checked.shape), marks_len, records_len)
 }
 
 // Two bytes of a file as one word, the first byte lowest; then four, and eight.
@@ -253,12 +291,13 @@ fn reverse(word: u64) -> u64
 }
 
 // All words of an accepted file.
-pub fn unpack_rows(file: &[u8], width: u32, height: u32, words: &mut [u64])
-    requires { ⌜ FileAccepted (now file) width height × (length (now words) ≡ imageWords width height) ⌝ }
-    ensures { λ _. ⌜ now (words .exit) ≡ unpacked (now (file .entry)) width height ⌝ }
+pub fn unpack_rows(file: &[u8], shape: Shape, words: &mut [u64])
+    requires { ⌜ FileAccepted shape (now file) × (length (now words) ≡ size shape) ⌝ }
+    ensures { λ _. ⌜ now (words .exit) ≡ unpacked (now (file .entry)) shape ⌝ }
 {
-    let bytes = (width as usize + 7) / 8;
-    let row = (width as usize + 63) / 64;
+    let width = shape.width as usize;
+    let bytes = (width + 7) / 8;
+    let row = shape.row_words;
     let mut x = 0;
     let mut y = 0;
     let mut i = 0;
@@ -277,13 +316,11 @@ pub fn unpack_rows(file: &[u8], width: u32, height: u32, words: &mut [u64])
 pub fn unpack(file: &[u8], words: &mut [u64]) -> u32
     ensures { λ r. ⌜ Unpacks (now (file .entry)) (now (words .entry)) r (now (words .exit)) ⌝ }
 {
-    let answer = check(file);
+    let checked = check_file(file);
+    let answer = unpack_refusal(checked, words.len());
     if answer != 0 {
         return answer;
     }
-    if words.len() != file_words(file) {
-        return 6;
-    }
-    unpack_rows(file, width(file), height(file), words);
+    unpack_rows(file, checked.shape, words);
     0
 }

@@ -1,6 +1,13 @@
 // The entries of the finder: an image, in words or in a crop file, is refused with a number, or searched.
 ghost use mathlib.Core.Path.{_≡_};
-ghost use Rattle.detector.specs.Detector.{Fit, run, searchedRun, wordsRun, filed, fileRun};
+ghost use Prim.Native.Nat.{_≤_};
+ghost use lib.ListN.{length};
+ghost use Rattle.bit_matrix.specs.Shape.{Image};
+ghost use Rattle.crop.specs.Crop.{Checks};
+ghost use Rattle.detector.specs.Detector.{run, reportOf, refusedReport, acceptedRun, wordsRun, filed, fileRun};
+use bit_matrix::Shape;
+use crop::Checked;
+use detector_verdict::Counts;
 
 // What an entry reports: the answer, the sweep's candidates, those kept, and how many bits are marked.
 #[repr(C)]
@@ -11,8 +18,19 @@ pub struct Report {
     pub marked: u32,
 }
 
+fn report_of(counts: Counts, marked: u32) -> Report
+    ensures { λ r. ⌜ r ≡ reportOf counts marked ⌝ }
+{
+    Report {
+        answer: counts.answer,
+        found: counts.found,
+        kept: counts.kept,
+        marked,
+    }
+}
+
 fn refused(answer: u32) -> Report
-    ensures { λ r. ⌜ r ≡ record { answer = answer; found = 0; kept = 0; marked = 0 } ⌝ }
+    ensures { λ r. ⌜ r ≡ refusedReport answer ⌝ }
 {
     Report {
         answer,
@@ -23,26 +41,15 @@ fn refused(answer: u32) -> Report
 }
 
 // The search of an accepted image: the marks are cleared, the search sets them, and they are counted.
-fn search_accepted(
-    words: &[u64],
-    width: u32,
-    height: u32,
-    records: &mut [u32],
-    marks: &mut [u64],
-) -> Report
-    requires { ⌜ Fit (now words) width height (now marks) (now records) ⌝ }
-    ensures { λ r. ⌜ run r (now (records .exit)) (now (marks .exit)) ≡ searchedRun (now (words .entry)) width height (now (records .entry)) ⌝ }
+fn search_accepted(words: &[u64], shape: Shape, records: &mut [u32], marks: &mut [u64]) -> Report
+    requires { ⌜ Image shape (now words) (now marks) × (40 ≤ length (now records)) ⌝ }
+    ensures { λ r. ⌜ run r (now (records .exit)) (now (marks .exit)) ≡ acceptedRun shape (now (words .entry)) (now (records .entry)) ⌝ }
 {
     bit_matrix::clear(marks);
     let capacity = records::capacity_of(records.len());
-    let counts = detector_search::search(words, marks, records, width, height, capacity);
+    let counts = detector_search::search(words, marks, records, shape, capacity);
     let marked = bit_matrix::count_marks(marks);
-    Report {
-        answer: counts.answer,
-        found: counts.found,
-        kept: counts.kept,
-        marked,
-    }
+    report_of(counts, marked)
 }
 
 // The search of an image in words.
@@ -59,19 +66,33 @@ pub fn search_words(
     if answer != 0 {
         return refused(answer);
     }
-    search_accepted(words, width, height, records, marks)
+    search_accepted(words, crop::shape_of(width, height), records, marks)
+}
+
+// The search of a crop file that was checked, with words to unpack it into.
+pub fn search_checked(
+    file: &[u8],
+    checked: Checked,
+    words: &mut [u64],
+    records: &mut [u32],
+    marks: &mut [u64],
+) -> Report
+    requires { ⌜ Checks (now file) checked ⌝ }
+    ensures { λ r. ⌜ filed (now (words .exit)) (run r (now (records .exit)) (now (marks .exit))) ≡ fileRun (now (file .entry)) (now (words .entry)) (now (records .entry)) (now (marks .entry)) ⌝ }
+{
+    let answer = crop::file_refusal(checked, words.len(), marks.len(), records.len());
+    if answer != 0 {
+        return refused(answer);
+    }
+    let shape = checked.shape;
+    crop::unpack_rows(file, shape, words);
+    search_accepted(words, shape, records, marks)
 }
 
 // The search of a crop file, with words to unpack it into.
 pub fn search_file(file: &[u8], words: &mut [u64], records: &mut [u32], marks: &mut [u64]) -> Report
     ensures { λ r. ⌜ filed (now (words .exit)) (run r (now (records .exit)) (now (marks .exit))) ≡ fileRun (now (file .entry)) (now (words .entry)) (now (records .entry)) (now (marks .entry)) ⌝ }
 {
-    let answer = crop::file_refusal(file, words.len(), marks.len(), records.len());
-    if answer != 0 {
-        return refused(answer);
-    }
-    let width = crop::width(file);
-    let height = crop::height(file);
-    crop::unpack_rows(file, width, height, words);
-    search_accepted(words, width, height, records, marks)
+    let checked = crop::check_file(file);
+    search_checked(file, checked, words, records, marks)
 }

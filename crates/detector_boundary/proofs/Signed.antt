@@ -112,18 +112,32 @@ module _ (c n : ℕ) (v : ℤ) (small : c ≤ 2048) (few : n ≤ 32768) (e : rea
   pub more-read : read (toZ w32 c +ℤ read v) ≡ pos c +ℤ pos n
   more-read = toZ-ofZ w32 _ more-fits ∙ more-is
 
--- ---- an image's size less a margin of k + 1
-module _ (size k : ℕ) (room : suc k ≤ size) (small : size ≤ 2048) where
-  margin-is : toZ w32 size -ℤ pos (suc k) ≡ pos (size - suc k)
-  margin-is =
-      ap (λ (v : ℤ). v -ℤ pos (suc k)) (toZ-pos w32 size (omega arith))
-      ∙ ap (λ (b : Bool). cond b (negsuc (suc k - suc size)) (pos (size - suc k))) (le-ltb size (suc k) room)
+-- ---- an image's size less a margin
+margin-is : (size m : ℕ) → m ≤ size → size ≤ 2048 → toZ w32 size -ℤ pos m ≡ pos (size - m)
+margin-is size zero room small =
+    let same : size + zero ≡ size - zero = omega arith in
+    ap (λ (v : ℤ). v -ℤ pos zero) (toZ-pos w32 size (omega arith)) ∙ ap pos same
+margin-is size (suc k) room small =
+    ap (λ (v : ℤ). v -ℤ pos (suc k)) (toZ-pos w32 size (omega arith))
+    ∙ ap (λ (b : Bool). cond b (negsuc (suc k - suc size)) (pos (size - suc k))) (le-ltb size (suc k) room)
 
-  pub margin-fits : SFits w32 (toZ w32 size -ℤ pos (suc k))
-  margin-fits = subst (SFits w32) (sym margin-is) (record { sfits = omega arith })
-
-  pub margin-read : read (toZ w32 size -ℤ pos (suc k)) ≡ pos (size - suc k)
-  margin-read = toZ-ofZ w32 _ margin-fits ∙ margin-is
-
-pub range : {low high : ℕ} {v : ℤ} → v ≡ pos high → low ≤ high → Range (pos low) v
+range : {low high : ℕ} {v : ℤ} → v ≡ pos high → low ≤ high → Range (pos low) v
 range {low} e h = subst (Range (pos low)) (sym e) (record { low-natural = tt; high-natural = tt; ordered = h })
+
+-- of an image's limits, with a margin of at most 33
+module _ (size m : ℕ) (few : m ≤ 33) (least : 33 ≤ size) (small : size ≤ 2048) where
+  room : m ≤ size
+  room = omega arith
+
+  pub margin-fits : SFits w32 (toZ w32 size -ℤ pos m)
+  margin-fits = subst (SFits w32) (sym (margin-is size m room small)) (record { sfits = omega arith })
+
+  pub margin-read : read (toZ w32 size -ℤ pos m) ≡ pos (size - m)
+  margin-read = toZ-ofZ w32 _ margin-fits ∙ margin-is size m room small
+
+  pub margin-range : Range (pos 0) (read (toZ w32 size -ℤ pos m))
+  margin-range = range margin-read (omega arith)
+
+  -- a clamp from m to the size
+  pub size-range : Range (pos m) (toZ w32 size)
+  size-range = range (toZ-pos w32 size (omega arith)) room

@@ -1,7 +1,7 @@
--- `Size` and `Boundary` have the definitions. `SizeLaws` and `ShiftLaws` say how large a size and a shift are, `Within` where the
+-- `Size` and `Boundary` have the definitions. `SizeLaws` and `ShiftLaws` say how large a size and a shift are, `InImage` where the
 -- boundaries lie.
 pub mod Size
 pub mod SizeLaws
 pub mod Boundary
 pub mod ShiftLaws
-pub mod Within
+pub mod InImage

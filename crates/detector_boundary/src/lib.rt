@@ -1,11 +1,13 @@
 // The size of a symbol guessed from the radius of its bull's-eye, and the symbol's boundaries about a centre:
 // `guess_barcode_size_general`, `guess_barcode_size` and `calculate_simple_boundary` of detector.rs.
+use bit_matrix::Shape;
+use rxing_result_point::PointU;
 ghost use mathlib.Core.Path.{_≡_};
 ghost use Prim.Native.Nat.{_<_, _≤_};
 ghost use lib.Dec.{T};
 ghost use lib.IntN.{natAbs};
 ghost use Rattle.detector_boundary.specs.Size.{guessedSize, plainSize, isScale};
-ghost use Rattle.detector_boundary.specs.Boundary.{clamped, boundaryOf, plainBoundary, scaledBoundary, Pixel, Range};
+ghost use Rattle.detector_boundary.specs.Boundary.{clamped, boundaryOf, plainBoundary, scaledBoundary, Centered, Range};
 
 // A symbol's width and height in pixels.
 pub struct Size {
@@ -64,16 +66,10 @@ const LEFT_SHIFT_PERCENT_ADJUST: f32 = 0.03;
 
 const RIGHT_SHIFT_PERCENT_ADJUST: f32 = 0.03;
 
-// The boundaries of a symbol of that size about the centre (x, y). No sum leaves i32, since a size is at most 32,768.
-fn calculate_simple_boundary(
-    image_width: u32,
-    image_height: u32,
-    x: u32,
-    y: u32,
-    size: Size,
-) -> Boundary
-    requires { ⌜ Pixel «image_width» «image_height» x y ⌝ ∗ ⌜ size .width ≤ 32768 ⌝ ∗ ⌜ size .height ≤ 32768 ⌝ }
-    ensures { λ r. ⌜ r ≡ boundaryOf «image_width» «image_height» x y size ⌝ }
+// The boundaries of a symbol of that size about a centre. No sum leaves i32, since a size is at most 32,768.
+fn calculate_simple_boundary(shape: Shape, center: PointU, size: Size) -> Boundary
+    requires { ⌜ Centered shape center × (size .width ≤ 32768) × (size .height ≤ 32768) ⌝ }
+    ensures { λ r. ⌜ r ≡ boundaryOf shape center size ⌝ }
 {
     let up_down_shift = size.height as i32 / 2;
     let symbol_width = std::num::nearest_u32_to_f32(size.width);
@@ -84,31 +80,29 @@ fn calculate_simple_boundary(
         symbol_width / 2.0 + symbol_width * RIGHT_SHIFT_PERCENT_ADJUST,
     );
     Boundary {
-        left: clamp(x as i32 - left_shift, 0, image_width as i32 - 33),
-        right: clamp(x as i32 + right_shift, 33, image_width as i32),
-        top: clamp(y as i32 + up_down_shift, 33, image_height as i32),
-        bottom: clamp(y as i32 - up_down_shift, 0, image_height as i32 - 30),
+        left: clamp(center.x as i32 - left_shift, 0, shape.width as i32 - 33),
+        right: clamp(center.x as i32 + right_shift, 33, shape.width as i32),
+        top: clamp(center.y as i32 + up_down_shift, 33, shape.height as i32),
+        bottom: clamp(center.y as i32 - up_down_shift, 0, shape.height as i32 - 30),
     }
 }
 
 // The plain box's boundaries.
-pub fn plain_boundary(width: u32, height: u32, x: u32, y: u32, radius: u32) -> Boundary
-    requires { ⌜ Pixel width height x y ⌝ ∗ ⌜ radius < 2048 ⌝ }
-    ensures { λ r. ⌜ r ≡ plainBoundary width height x y radius ⌝ }
+pub fn plain_boundary(shape: Shape, center: PointU, radius: u32) -> Boundary
+    requires { ⌜ Centered shape center × (radius < 2048) ⌝ }
+    ensures { λ r. ⌜ r ≡ plainBoundary shape center radius ⌝ }
 {
-    calculate_simple_boundary(width, height, x, y, guess_barcode_size(radius))
+    calculate_simple_boundary(shape, center, guess_barcode_size(radius))
 }
 
 // The boundaries of a scale.
-pub fn scaled_boundary(width: u32, height: u32, x: u32, y: u32, radius: u32, scale: f64) -> Boundary
-    requires { ⌜ Pixel width height x y ⌝ ∗ ⌜ radius < 2048 ⌝ ∗ ⌜ T (isScale scale) ⌝ }
-    ensures { λ r. ⌜ r ≡ scaledBoundary width height x y radius scale ⌝ }
+pub fn scaled_boundary(shape: Shape, center: PointU, radius: u32, scale: f64) -> Boundary
+    requires { ⌜ Centered shape center × (radius < 2048) × T (isScale scale) ⌝ }
+    ensures { λ r. ⌜ r ≡ scaledBoundary shape center radius scale ⌝ }
 {
     calculate_simple_boundary(
-        width,
-        height,
-        x,
-        y,
+        shape,
+        center,
         guess_barcode_size_general(radius, 0.05, scale, 0.95),
     )
 }

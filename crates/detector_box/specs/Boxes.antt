@@ -5,11 +5,14 @@ use mathlib.Core.List.{List, [], _∷_, _++_, map}
 use lib.Ieee.{nan, binary32, toBits, toUnsigned}
 use lib.ListN.{getD, take}
 use Rattle.reads.specs.Reads.{Reads, done, _>>=_}
+use Rattle.bit_matrix.specs.declared.Shape.{Shape}
+use Rattle.records.specs.Fields as field
 use Rattle.rxing_result_point.specs.declared.Point.{Point}
 use Rattle.rxing_result_point.specs.declared.PointU.{PointU}
 use Rattle.rxing_result_point.specs.Points.{real, getPoint}
 use Rattle.detector_boundary.specs.declared.Boundary.{Boundary}
 use Rattle.detector_boundary.specs.Boundary.{plainBoundary}
+use Rattle.detector_circle.specs.declared.Circle.{Circle}
 use Rattle.detector_turn.specs.declared.Turn.{Turn}
 use Rattle.detector_turn.specs.Outcomes.{ifOutcome, outcomeNumber, rotationBits, classOf}
 use Rattle.detector_turn.specs.Scales.{tryScales}
@@ -34,13 +37,13 @@ unfoldable pub cornersOf : Boundary → Turn → List Point
 cornersOf b turn = ifOutcome (λ rotation. turnedCorners b (turn .center) (turn .degree)) (plainCorners b) (plainCorners b) (turn .outcome)
 
 abbrev pub symbolOf : Boundary → Turn → Symbol
-symbolOf b turn = record { turn = turn; corners = cornersOf b turn; class = classOf (turn .degree) }
+symbolOf b turn = record { turn = turn; corners = cornersOf b turn; class = classOf turn }
 
 -- `box_symbol`; the plain box is that of the first centre
-unfoldable pub symbolAt : ℕ → ℕ → ℕ → ℕ → ℕ → PointU → Reads Symbol
-symbolAt rowWords size width height radius center = do
-  turn ← tryScales rowWords size width height radius center
-  done (symbolOf (plainBoundary width height (center .x) (center .y) radius) turn)
+unfoldable pub symbolAt : Shape → Circle → Reads Symbol
+symbolAt shape circle = do
+  turn ← tryScales shape circle
+  done (symbolOf (plainBoundary shape (circle .center) (circle .radius)) turn)
 
 -- a corner's two words
 abbrev pub cornerWords : Point → List ℕ
@@ -58,6 +61,6 @@ symbolWords s =
     let turn = s .turn in
     outcomeNumber (turn .outcome) ∷ turn .scale ∷ rotationBits (turn .outcome) ∷ turn .center .x ∷ turn .center .y ∷ fourCorners (s .corners) ++ (s .class ∷ [])
 
--- a record of 40 words with those of the symbol, from word 26 on
+-- a record of 40 words with those of the symbol, from its outcome on
 unfoldable pub withSymbol : List ℕ → Symbol → List ℕ
-withSymbol fields s = take 26 fields ++ symbolWords s
+withSymbol fields s = take field.outcome fields ++ symbolWords s

@@ -9,12 +9,15 @@ use lib.Seq.{take-at, length-take-le}
 use Rattle.ieee.specs.Between.{whole-between, cast-between}
 use Rattle.reads.specs.Reads.{Always}
 use Rattle.reads.specs.ReadsLaws.{always-done, always-bind}
+use Rattle.bit_matrix.specs.declared.Shape.{Shape}
+use Rattle.bit_matrix.specs.Shape.{Inside}
 use Rattle.rxing_result_point.specs.declared.PointU.{PointU}
 use Rattle.rxing_result_point.specs.Points.{real, getPoint}
 use Rattle.detector_boundary.specs.declared.Boundary.{Boundary}
-use Rattle.detector_boundary.specs.Within.{Placed}
-use Rattle.detector_turn.specs.Outcomes.{classOf}
-use Rattle.detector_turn.specs.Scales.{Inner, turnedBy, notTurned, lostAt}
+use Rattle.detector_boundary.specs.InImage.{Placed}
+use Rattle.detector_circle.specs.declared.Circle.{Circle}
+use Rattle.detector_turn.specs.Outcomes.{quarterOf}
+use Rattle.detector_turn.specs.Scales.{turnedBy, notTurned, lostAt}
 use Rattle.detector_turn.specs.ScalesLaws.{Ended, ended}
 use Rattle.detector_box.specs.declared.Symbol.{Symbol}
 use Rattle.detector_box.specs.Boxes.{corner, plainCorners, turnedCorner, turnedCorners, cornersOf, symbolOf, symbolAt, fourCorners, symbolWords, withSymbol}
@@ -22,21 +25,21 @@ use Rattle.detector_box.specs.Boxes.{corner, plainCorners, turnedCorner,
 -- ---- the words, for each outcome
 
 module _ (b : Boundary) (center : PointU) where
-  -- with a turn: 1, the scale, the degree as an f32, the corrected centre, the box turned about it, the degree's class
+  -- with a turn: 1, the scale, the degree as an f32, the corrected centre, the box turned about it, the degree's quarter
   pub turned-words : (degree scale : ℕ) → symbolWords (symbolOf b (turnedBy degree scale center))
-      ≡ 1 ∷ scale ∷ toBits binary32 (real degree) ∷ center .x ∷ center .y ∷ fourCorners (turnedCorners b center degree) ++ (classOf degree ∷ [])
+      ≡ 1 ∷ scale ∷ toBits binary32 (real degree) ∷ center .x ∷ center .y ∷ fourCorners (turnedCorners b center degree) ++ (quarterOf degree ∷ [])
   unfolding symbolWords cornersOf
   turned-words degree scale = refl
 
   -- without: 0, no scale, rotation 0, the last corrected centre, the plain box, class 0
   pub no-turn-words : symbolWords (symbolOf b (notTurned center)) ≡ 0 ∷ 0 ∷ 0 ∷ center .x ∷ center .y ∷ fourCorners (plainCorners b) ++ (0 ∷ [])
-  unfolding symbolWords cornersOf classOf
+  unfolding symbolWords cornersOf
   no-turn-words = refl
 
   -- with a lost centre: 2, the scale that lost it, rotation 0, the last centre inside, the plain box, class 0
   pub lost-words : (scale : ℕ) → symbolWords (symbolOf b (lostAt scale center))
       ≡ 2 ∷ scale ∷ 0 ∷ center .x ∷ center .y ∷ fourCorners (plainCorners b) ++ (0 ∷ [])
-  unfolding symbolWords cornersOf classOf
+  unfolding symbolWords cornersOf
   lost-words scale = refl
 
 -- ---- a record keeps its first 26 words, and its length
@@ -51,10 +54,10 @@ length-withSymbol fields s e = length-append (take 26 fields) (symbolWords s) �
 
 -- ---- every symbol
 
-pub boxed : (rowWords size width height radius : ℕ) (center : PointU) → Inner width height center
-    → Always (λ (s : Symbol). Ended width height (s .turn)) (symbolAt rowWords size width height radius center)
+pub boxed : (shape : Shape) (circle : Circle) → Inside shape (circle .center .x) (circle .center .y)
+    → Always (λ (s : Symbol). Ended shape (s .turn)) (symbolAt shape circle)
 unfolding symbolAt
-boxed rowWords size width height radius center inner = always-bind _ (ended rowWords size width height radius center inner) λ turn e. always-done e
+boxed shape circle inside = always-bind _ (ended shape circle inside) λ turn e. always-done e
 
 -- ---- corners through f32 and back to u32
 

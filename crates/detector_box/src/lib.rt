@@ -1,18 +1,20 @@
 // `box_symbol` of detector.rs: the plain box of the first centre, the scales, and the box turned about the corrected centre where one of them finds a turn;
 // and a symbol's words in a record.
+use bit_matrix::Shape;
 use detector_boundary::Boundary;
+use detector_circle::Circle;
 use detector_turn::Outcome;
 use detector_turn::Turn;
 use rxing_result_point::Point;
 use rxing_result_point::PointU;
 ghost use mathlib.Core.Path.{_≡_};
-ghost use Prim.Native.Nat.{_≤_, _<_};
+ghost use Prim.Native.Nat.{_<_};
 ghost use lib.ListN.{length};
 ghost use lib.Seq.{sets};
 ghost use Rattle.reads.specs.Runs.{Ran};
 ghost use Rattle.sines.specs.Sines.{sines};
-ghost use Rattle.detector_boundary.specs.Within.{Placed};
-ghost use Rattle.detector_turn.specs.Scales.{ImageBounds, Inner};
+ghost use Rattle.detector_boundary.specs.InImage.{Placed};
+ghost use Rattle.detector_turn.specs.Scales.{LentCircle};
 ghost use Rattle.detector_box.specs.Boxes.{corner, plainCorners, turnedCorners, cornersOf, symbolAt, cornerWords, withSymbol};
 
 // A symbol's turn, its corners (left, bottom), (left, top), (right, bottom), (right, top), and its class.
@@ -45,7 +47,7 @@ fn plain_corners(b: Boundary) -> [Point; 4]
 
 // The corners turned about a centre. The source casts each to f32 and back, which changes none up to 2,048.
 fn turned_corners(b: Boundary, center: PointU, table: &[f32; 360], degree: u32) -> [Point; 4]
-    requires { ⌜ Placed b ⌝ ∗ ⌜ now table ≡ sines ⌝ }
+    requires { ⌜ Placed b × (now table ≡ sines) ⌝ }
     ensures { λ r. ⌜ r ≡ turnedCorners b center degree ⌝ }
 {
     let left_bottom = PointU {
@@ -73,7 +75,7 @@ fn turned_corners(b: Boundary, center: PointU, table: &[f32; 360], degree: u32) 
 }
 
 fn corners_of(b: Boundary, turn: Turn, table: &[f32; 360]) -> [Point; 4]
-    requires { ⌜ Placed b ⌝ ∗ ⌜ now table ≡ sines ⌝ }
+    requires { ⌜ Placed b × (now table ≡ sines) ⌝ }
     ensures { λ r. ⌜ r ≡ cornersOf b turn ⌝ }
 {
     let outcome = turn.outcome;
@@ -88,29 +90,17 @@ fn corners_of(b: Boundary, turn: Turn, table: &[f32; 360]) -> [Point; 4]
 pub fn box_symbol(
     words: &[u64],
     marks: &mut [u64],
-    row_words: usize,
-    width: u32,
-    height: u32,
-    center: PointU,
-    radius: u32,
+    shape: Shape,
+    circle: Circle,
     table: &[f32; 360],
 ) -> Symbol
-    requires { ⌜ length (now marks) ≡ length (now words) ⌝ ∗ ⌜ ImageBounds (length (now words)) «row_words» width height ⌝ ∗ ⌜ Inner width height center ⌝ ∗ ⌜ (6 ≤ radius) × (radius < 2048) ⌝ ∗ ⌜ now table ≡ sines ⌝ }
-    ensures { λ r. ⌜ Ran (symbolAt «row_words» (length (now (words .entry))) width height radius center) (now (words .entry)) (now (marks .entry)) r (now (marks .exit)) ⌝ }
+    requires { ⌜ LentCircle shape (now words) (now marks) circle (now table) ⌝ }
+    ensures { λ r. ⌜ Ran (symbolAt shape circle) (now (words .entry)) (now (marks .entry)) r (now (marks .exit)) ⌝ }
 {
-    let boundary = detector_boundary::plain_boundary(width, height, center.x, center.y, radius);
-    let turn = detector_turn::try_scales(
-        words,
-        marks,
-        row_words,
-        width,
-        height,
-        center,
-        radius,
-        table,
-    );
+    let boundary = detector_boundary::plain_boundary(shape, circle.center, circle.radius);
+    let turn = detector_turn::try_scales(words, marks, shape, circle, table);
     let corners = corners_of(boundary, turn, table);
-    let class = detector_turn::class_of(turn.degree);
+    let class = detector_turn::class_of(turn);
     Symbol {
         turn,
         corners,
@@ -127,7 +117,7 @@ fn store_corner(fields: &mut [u32; 40], at: usize, p: Point)
     fields[at + 1] = ieee::bits_of_f32(p.y);
 }
 
-// A symbol's words in a record, from word 26 on.
+// A symbol's words in a record, from its outcome on.
 pub fn symbol_fields(fields: &mut [u32; 40], symbol: Symbol)
     requires { ⌜ length (now fields) ≡ 40 ⌝ }
     ensures { λ _. ⌜ now (fields .exit) ≡ withSymbol (now (fields .entry)) symbol ⌝ }
@@ -136,14 +126,14 @@ pub fn symbol_fields(fields: &mut [u32; 40], symbol: Symbol)
     let outcome = turn.outcome;
     let center = turn.center;
     let corners = symbol.corners;
-    fields[26] = detector_turn::outcome_number(outcome);
-    fields[27] = turn.scale;
-    fields[28] = detector_turn::rotation_bits(outcome);
-    fields[29] = center.x;
-    fields[30] = center.y;
-    store_corner(fields, 31, corners[0]);
-    store_corner(fields, 33, corners[1]);
-    store_corner(fields, 35, corners[2]);
-    store_corner(fields, 37, corners[3]);
-    fields[39] = symbol.class;
+    fields[records::OUTCOME] = detector_turn::outcome_number(outcome);
+    fields[records::SCALE] = turn.scale;
+    fields[records::ROTATION] = detector_turn::rotation_bits(outcome);
+    fields[records::LAST_CENTER_X] = center.x;
+    fields[records::LAST_CENTER_Y] = center.y;
+    store_corner(fields, records::CORNERS, corners[0]);
+    store_corner(fields, records::CORNERS + 2, corners[1]);
+    store_corner(fields, records::CORNERS + 4, corners[2]);
+    store_corner(fields, records::CORNERS + 6, corners[3]);
+    fields[records::CLASS] = symbol.class;
 }

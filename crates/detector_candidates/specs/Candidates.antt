@@ -1,6 +1,6 @@
--- `find_concentric_circles` of detector.rs as a reading program (document 01, "Candidates"). `rowWords` and `size` are the image's: words in a row, and in
--- all; `valid` is the test of the widths, the whole-number one or the source's in f32 (detector_widths/specs/Widths.antt). Definitions only. Assumes nothing.
-use Prim.Native.Nat.{ℕ, zero, suc, _+_, _-_, _*_, _/_, _≤_, min}
+-- `find_concentric_circles` of detector.rs as a reading program (document 01, "Candidates"). `valid` is the test of the
+-- widths, the whole-number one or the source's in f32 (detector_widths/specs/Widths.antt). Definitions only. Assumes nothing.
+use Prim.Native.Nat.{ℕ, zero, suc, _+_, _-_, _*_, _/_, _≤_, _<_, min}
 use mathlib.Core.Bool.{Bool, true, false, cond, _||_}
 use mathlib.Core.Path.{_≡_}
 use mathlib.Core.List.{List, [], _∷_, _++_}
@@ -9,6 +9,8 @@ use lib.ListN.{length, take, replicate}
 use Rattle.reads.specs.Reads.{Reads, done, _>>=_}
 use Rattle.reads.specs.Runs.{valueOf, marksOf}
 use Rattle.records.specs.Records.{Record, Became}
+use Rattle.bit_matrix.specs.declared.Shape.{Shape}
+use Rattle.bit_matrix.specs.Shape.{Inside}
 use Rattle.detector_widths.specs.Widths.{validWidths}
 use Rattle.detector_rows.specs.Rows.{nextBullseyeBy}
 use Rattle.detector_rows.specs.declared.Bullseye.{Bullseye}
@@ -40,13 +42,19 @@ failed column eye =
 abbrev pub after : List Record → Searched → List Record
 after circles s = cond (s .passed) (circles ++ s .candidate ∷ []) circles
 
-module _ (valid : List ℕ → Bool) (rowWords size width height : ℕ) where
+-- a search's start: a pixel of the image, six columns or more from each side
+pub record Searchable (shape : Shape) (row column : ℕ) : Type 0 where
+  pub inside : Inside shape column row
+  pub left : 6 ≤ column
+  pub right : column < shape .width - 6
+
+module _ (valid : List ℕ → Bool) (shape : Shape) where
   unfoldable pub searchBy : ℕ → ℕ → Reads Searched
   searchBy row column = do
-    eye ← nextBullseyeBy valid rowWords size width row column
+    eye ← nextBullseyeBy valid shape row column
     cond (eye .found)
         (do
-          seen ← verifyBullseyeVerticalBy valid rowWords size height row (eye .center)
+          seen ← verifyBullseyeVerticalBy valid shape row (eye .center)
           cond (seen .good) (done (passed row eye (seen .buckets))) (done (failed column eye)))
         (done (nothing column))
 
@@ -64,42 +72,42 @@ module _ (valid : List ℕ → Bool) (rowWords size width height : ℕ) where
     unfoldable pub rowsBy : ℕ → ℕ → List Record → Reads (List Record)
     rowsBy zero row circles = done circles
     rowsBy (suc n) row circles =
-        cond (ltb row (height - 6))
+        cond (ltb row (shape .height - 6))
         (do
-          now ← rowBy width row 6 circles
+          now ← rowBy (shape .width) row 6 circles
           cond (ltb capacity (length now)) (done now) (rowsBy n (row + 2) now))
         (done circles)
 
     unfoldable pub concentricCirclesBy : Reads (List Record)
-    concentricCirclesBy = rowsBy height 6 []
+    concentricCirclesBy = rowsBy (shape .height) 6 []
 
 -- ---- with the test in whole numbers; with the source's in f32 results and reads are the same: `same-sweep-f32`, CandidatesLaws.antt
-abbrev pub searchFrom : ℕ → ℕ → ℕ → ℕ → ℕ → ℕ → Reads Searched
+abbrev pub searchFrom : Shape → ℕ → ℕ → Reads Searched
 searchFrom = searchBy validWidths
 
-abbrev pub rowFrom : ℕ → ℕ → ℕ → ℕ → ℕ → ℕ → ℕ → ℕ → List Record → Reads (List Record)
+abbrev pub rowFrom : Shape → ℕ → ℕ → ℕ → ℕ → List Record → Reads (List Record)
 rowFrom = rowBy validWidths
 
-abbrev pub rowsFrom : ℕ → ℕ → ℕ → ℕ → ℕ → ℕ → ℕ → List Record → Reads (List Record)
+abbrev pub rowsFrom : Shape → ℕ → ℕ → ℕ → List Record → Reads (List Record)
 rowsFrom = rowsBy validWidths
 
-abbrev pub concentricCircles : ℕ → ℕ → ℕ → ℕ → ℕ → Reads (List Record)
+abbrev pub concentricCircles : Shape → ℕ → Reads (List Record)
 concentricCircles = concentricCirclesBy validWidths
 
 -- ---- the buffer
 
 -- `count` candidates stand in a buffer that has room for the capacity, at most 1,024
-pub record Room (capacity : ℕ) (buffer : List ℕ) (count : ℕ) : Type 0 where
+pub record Room (capacity : ℕ) (records : List ℕ) (count : ℕ) : Type 0 where
   pub few : count ≤ capacity
   pub most : capacity ≤ 1024
-  pub held : 40 * capacity ≤ length buffer
+  pub held : 40 * capacity ≤ length records
 
--- There are `count` candidates, and the first of them, up to the capacity, are the buffer's records; what is behind them is as it was.
-pub record Stored (capacity : ℕ) (before : List ℕ) (circles : List Record) (count : ℕ) (buffer : List ℕ) : Type 0 where
+-- There are `count` candidates, and the first of them, up to the capacity, stand in the buffer; what is behind them is as it was.
+pub record Stored (capacity : ℕ) (before : List ℕ) (circles : List Record) (count : ℕ) (records : List ℕ) : Type 0 where
   pub counted : count ≡ length circles
-  pub written : Became (min count capacity) before (take capacity circles) buffer
+  pub written : Became (min count capacity) before (take capacity circles) records
 
 -- The steps p, run over the image's words, give the candidates that are stored, and take the marks from `marks` to `marks′`.
-pub record Listed (p : Reads (List Record)) (capacity : ℕ) (words marks buffer : List ℕ) (found : ℕ) (marks′ buffer′ : List ℕ) : Type 0 where
-  pub stored : Stored capacity buffer (valueOf p words) found buffer′
+pub record Listed (p : Reads (List Record)) (capacity : ℕ) (words marks records : List ℕ) (found : ℕ) (marks′ records′ : List ℕ) : Type 0 where
+  pub stored : Stored capacity records (valueOf p words) found records′
   pub marked : marks′ ≡ marksOf p words marks

@@ -11,7 +11,10 @@ use lib.ListN.{length, getD, replicate, length-append, length-replicate}
 use Rattle.reads.specs.Reads.{Reads, done, Always, Same}
 use Rattle.reads.specs.BitsLaws.{getD-zeros}
 use Rattle.reads.specs.ReadsLaws.{always-done, always-bind, always-after, always-cond, same-refl, same-after, same-cond}
+use Rattle.records.specs.Fields as field
 use Rattle.records.specs.Records.{Record, Each}
+use Rattle.bit_matrix.specs.declared.Shape.{Shape}
+use Rattle.bit_matrix.specs.Shape.{Limits, Inside}
 use Rattle.detector_widths.specs.Widths.{validWidthsF32}
 use Rattle.detector_rows.specs.RowsLaws.{Closed, always-closed, same-rows-f32}
 use Rattle.detector_rows.specs.declared.Bullseye.{Bullseye}
@@ -22,6 +25,7 @@ use Rattle.detector_candidates.specs.Candidates.{
   passed,
   failed,
   after,
+  Searchable,
   searchBy,
   searchFrom,
   rowBy,
@@ -73,13 +77,12 @@ nothing-onward width column = record { further = λ e. absurd (true≢false e); 
 
 -- ---- each candidate
 
--- a candidate of an image of that width and height, all of its words small
-pub record Fit (width height : ℕ) (r : Record) : Type 0 where
+-- a candidate of an image of that shape: its centre inside, and all of its words small
+pub record Candidate (shape : Shape) (r : Record) : Type 0 where
   pub whole : length r ≡ 40
-  pub column : getD r 0 0 < width
-  pub row : getD r 1 0 < height
-  pub least : 6 ≤ getD r 2 0
-  pub most : getD r 2 0 ≤ 1018
+  pub inside : Inside shape (getD r field.centerX 0) (getD r field.centerY 0)
+  pub least : 6 ≤ getD r field.radius 0
+  pub most : getD r field.radius 0 ≤ 1018
   pub small : (k : ℕ) → getD r k 0 < 65536
 
 or-left : (a b : Bool) → (a || b) ≡ false → a ≡ false
@@ -104,68 +107,67 @@ below-cons : (most x : ℕ) (xs : List ℕ) → x < most → ((k : ℕ) → getD
 below-cons most x xs first rest zero = first
 below-cons most x xs first rest (suc k) = rest k
 
--- the bounds of the image and of a search's start
-pub record Searchable (width height row column : ℕ) : Type 0 where
-  pub narrow : width ≤ 2048
-  pub low : height ≤ 2048
-  pub above : row < height
-  pub left : 6 ≤ column
-  pub right : column < width - 6
-
-module _ {width height row column : ℕ} (at : Searchable width height row column) {eye : Bullseye} (closed : Closed column width eye) {vertical : List ℕ}
-    (bounded : Bounded height vertical) where
-  candidate-fit : Fit width height (candidateOf row eye vertical)
+module _ {shape : Shape} {row column : ℕ} (limits : Limits shape) (at : Searchable shape row column) {eye : Bullseye}
+    (closed : Closed column (shape .width) eye) {vertical : List ℕ} (bounded : Bounded (shape .height) vertical) where
+  candidate-fit : Candidate shape (candidateOf row eye vertical)
   unfolding candidateOf
   candidate-fit = record {
     whole = simp (length-append, length-replicate, closed .eleven-runs, bounded .eleven) refl;
-    column = omega (arith, closed .before-limit);
-    row = at .above;
+    inside = record { column = omega (arith, closed .before-limit); row = at .inside .row };
     least = omega (arith, closed .half, closed .eleven-pixels);
-    most = omega (arith, at .narrow, at .left, closed .after-start, closed .before-limit, closed .half);
+    most = omega (arith, limits .width-most, at .left, closed .after-start, closed .before-limit, closed .half);
     small =
         let filled : List ℕ = replicate 15 0 in
         let runs = eye .buckets ++ vertical ++ filled in
-        below-cons 65536 (eye .center) (row ∷ eye .radius ∷ runs) (omega (arith, at .narrow, closed .before-limit))
-        (below-cons 65536 row (eye .radius ∷ runs) (omega (arith, at .low, at .above))
-        (below-cons 65536 (eye .radius) runs (omega (arith, at .narrow, closed .before-limit))
+        below-cons 65536 (eye .center) (row ∷ eye .radius ∷ runs) (omega (arith, limits .width-most, closed .before-limit))
+        (below-cons 65536 row (eye .radius ∷ runs) (omega (arith, limits .height-most, at .inside .row))
+        (below-cons 65536 (eye .radius) runs (omega (arith, limits .width-most, closed .before-limit))
         (below-append 65536 (eye .buckets ++ vertical) filled
-        (below-append 65536 (eye .buckets) vertical (λ k. omega (arith, at .narrow, closed .narrow k)) (λ k. omega (arith, at .low, bounded .each .run k)))
+        (below-append 65536 (eye .buckets) vertical (λ k. omega (arith, limits .width-most, closed .narrow k))
+        (λ k. omega (arith, limits .height-most, bounded .each .run k)))
         (λ k. rw (getD-zeros 15 k) (omega arith)))));
   }
 
 -- where the next search of a row starts
-pub searchable-next : {width height row column : ℕ} {s : Searched} → Searchable width height row column → Onward width column s → s .ended ≡ false
-    → Searchable width height row (s .column)
+pub searchable-next : {shape : Shape} {row column : ℕ} {s : Searched} → Searchable shape row column → Onward (shape .width) column s → s .ended ≡ false
+    → Searchable shape row (s .column)
 searchable-next at onward on = record {
-  narrow = at .narrow;
-  low = at .low;
-  above = at .above;
+  inside = record { column = omega (arith, onward .inside on); row = at .inside .row };
   left = omega (arith, at .left, onward .further on);
   right = onward .inside on;
 }
 
--- a search's candidate, if it has one
-pub record FitSearch (width height column : ℕ) (s : Searched) : Type 0 where
-  pub onward : Onward width column s
-  pub fit : s .passed ≡ true → Fit width height (s .candidate)
+-- where the first search of a row starts
+pub searchable-first : {shape : Shape} {row : ℕ} → Limits shape → row < shape .height → Searchable shape row 6
+searchable-first limits above = record {
+  inside = record { column = omega (arith, limits .width-least); row = above };
+  left = omega arith;
+  right = omega (arith, limits .width-least);
+}
 
-pub search-fit : (rowWords size width height row column : ℕ) → Searchable width height row column
-    → Always (FitSearch width height column) (searchFrom rowWords size width height row column)
+-- a search's candidate, if it has one
+pub record FitSearch (shape : Shape) (column : ℕ) (s : Searched) : Type 0 where
+  pub onward : Onward (shape .width) column s
+  pub fit : s .passed ≡ true → Candidate shape (s .candidate)
+
+pub search-fit : (shape : Shape) (row column : ℕ) → Limits shape → Searchable shape row column
+    → Always (FitSearch shape column) (searchFrom shape row column)
 unfolding searchBy passed failed nothing
-search-fit rowWords size width height row column at =
-    always-bind _ (always-closed rowWords size width row column) λ eye closed.
+search-fit shape row column limits at =
+    always-bind _ (always-closed shape row column) λ eye closed.
     always-cond (eye .found)
     (λ found.
-    always-bind _ (verified-bounded rowWords size height row (eye .center)) λ seen bounded.
+    always-bind _ (verified-bounded shape row (eye .center)) λ seen bounded.
     always-cond (seen .good)
     (λ _. always-done (fits-passed (closed found) bounded))
     (λ _. always-done (fits-failed (closed found))))
-    (λ _. always-done (record { onward = nothing-onward width column; fit = λ e. absurd (false≢true e) }))
+    (λ _. always-done (record { onward = nothing-onward (shape .width) column; fit = λ e. absurd (false≢true e) }))
   where
-    fits-passed : {eye : Bullseye} {vertical : List ℕ} → Closed column width eye → Bounded height vertical → FitSearch width height column (passed row eye vertical)
-    fits-passed {eye} {vertical} closed bounded = record { onward = passed-onward closed row vertical; fit = λ _. candidate-fit at closed bounded }
+    fits-passed : {eye : Bullseye} {vertical : List ℕ} → Closed column (shape .width) eye → Bounded (shape .height) vertical
+        → FitSearch shape column (passed row eye vertical)
+    fits-passed {eye} {vertical} closed bounded = record { onward = passed-onward closed row vertical; fit = λ _. candidate-fit limits at closed bounded }
 
-    fits-failed : {eye : Bullseye} → Closed column width eye → FitSearch width height column (failed column eye)
+    fits-failed : {eye : Bullseye} → Closed column (shape .width) eye → FitSearch shape column (failed column eye)
     fits-failed closed = record { onward = failed-onward closed; fit = λ e. absurd (false≢true e) }
 
 -- ---- candidates are only added
@@ -177,26 +179,26 @@ after-more circles s = go (s .passed)
     go true = simp length-append (omega arith)
     go false = omega arith
 
-pub row-more : (rowWords size width height capacity n row column : ℕ) (circles : List Record)
-    → Always (λ (now : List Record). length circles ≤ length now) (rowFrom rowWords size width height capacity n row column circles)
+pub row-more : (shape : Shape) (capacity n row column : ℕ) (circles : List Record)
+    → Always (λ (now : List Record). length circles ≤ length now) (rowFrom shape capacity n row column circles)
 unfolding rowBy
-row-more rowWords size width height capacity zero row column circles = always-done (omega arith)
-row-more rowWords size width height capacity (suc n) row column circles =
-    always-after (searchFrom rowWords size width height row column) _ λ s.
+row-more shape capacity zero row column circles = always-done (omega arith)
+row-more shape capacity (suc n) row column circles =
+    always-after (searchFrom shape row column) _ λ s.
     always-cond (s .ended || ltb capacity (length (after circles s)))
     (λ _. always-done (after-more circles s))
-    (λ _. record { on = λ image. omega (arith, after-more circles s, row-more rowWords size width height capacity n row (s .column) (after circles s) .on image) })
+    (λ _. record { on = λ image. omega (arith, after-more circles s, row-more shape capacity n row (s .column) (after circles s) .on image) })
 
 -- ---- the whole sweep
 
-module _ (rowWords size width height capacity : ℕ) where
+module _ (shape : Shape) (capacity : ℕ) where
   -- what the sweep gives
-  abbrev pub Candidates : List Record → Type 0
-  Candidates circles = Each (Fit width height) circles × (length circles ≤ capacity + 1)
+  abbrev Candidates : List Record → Type 0
+  Candidates circles = Each (Candidate shape) circles × (length circles ≤ capacity + 1)
 
   -- after a search
-  step-fit : {row column : ℕ} (s : Searched) (now : List Record) (rest : Reads (List Record)) → Searchable width height row column → FitSearch width height column s
-      → Candidates now → (Searchable width height row (s .column) → length now ≤ capacity → Always Candidates rest)
+  step-fit : {row column : ℕ} (s : Searched) (now : List Record) (rest : Reads (List Record)) → Searchable shape row column → FitSearch shape column s
+      → Candidates now → (Searchable shape row (s .column) → length now ≤ capacity → Always Candidates rest)
       → Always Candidates (cond (s .ended || ltb capacity (length now)) (done now) rest)
   step-fit s now rest at fits held goes =
       always-cond (s .ended || ltb capacity (length now))
@@ -204,56 +206,57 @@ module _ (rowWords size width height capacity : ℕ) where
       (λ on. goes (searchable-next at (fits .onward) (or-left (s .ended) _ on)) (ltb-false capacity (length now) (or-right (s .ended) _ on)))
 
   -- the candidates after a search
-  now-fit : {column : ℕ} (s : Searched) (circles : List Record) → FitSearch width height column s → Each (Fit width height) circles → length circles ≤ capacity
+  now-fit : {column : ℕ} (s : Searched) (circles : List Record) → FitSearch shape column s → Each (Candidate shape) circles → length circles ≤ capacity
       → Candidates (after circles s)
   now-fit s circles fits each few = go (s .passed) refl
     where
       go : (b : Bool) → s .passed ≡ b → Candidates (cond b (circles ++ s .candidate ∷ []) circles)
-      go true e = (each-append (Fit width height) circles (s .candidate) each (fits .fit e), simp length-append (omega arith))
+      go true e = (each-append (Candidate shape) circles (s .candidate) each (fits .fit e), simp length-append (omega arith))
       go false e = (each, omega arith)
 
-  row-fit : (n row column : ℕ) (circles : List Record) → Searchable width height row column → Each (Fit width height) circles → length circles ≤ capacity
-      → Always Candidates (rowFrom rowWords size width height capacity n row column circles)
+  row-fit : (n row column : ℕ) (circles : List Record) → Limits shape → Searchable shape row column
+      → Each (Candidate shape) circles → length circles ≤ capacity → Always Candidates (rowFrom shape capacity n row column circles)
   unfolding rowBy
-  row-fit zero row column circles at each few = always-done (each, omega arith)
-  row-fit (suc n) row column circles at each few =
-      always-bind _ (search-fit rowWords size width height row column at) λ s fits.
+  row-fit zero row column circles limits at each few = always-done (each, omega arith)
+  row-fit (suc n) row column circles limits at each few =
+      always-bind _ (search-fit shape row column limits at) λ s fits.
       let held = now-fit s circles fits each few in
-      step-fit s _ _ at fits held (λ next short. row-fit n row (s .column) _ next (held .0) short)
+      step-fit s _ _ at fits held (λ next short. row-fit n row (s .column) _ limits next (held .0) short)
 
-  rows-fit : (n row : ℕ) (circles : List Record) → width ≤ 2048 → height ≤ 2048 → 12 < width → Each (Fit width height) circles → length circles ≤ capacity
-      → Always Candidates (rowsFrom rowWords size width height capacity n row circles)
+  rows-fit : (n row : ℕ) (circles : List Record) → Limits shape → Each (Candidate shape) circles → length circles ≤ capacity
+      → Always Candidates (rowsFrom shape capacity n row circles)
   unfolding rowsBy
-  rows-fit zero row circles narrow low wide each few = always-done (each, omega arith)
-  rows-fit (suc n) row circles narrow low wide each few =
-      always-cond (ltb row (height - 6))
+  rows-fit zero row circles limits each few = always-done (each, omega arith)
+  rows-fit (suc n) row circles limits each few =
+      always-cond (ltb row (shape .height - 6))
       (λ inside.
-      let at : Searchable width height row 6 =
-      record { narrow = narrow; low = low; above = omega (arith, ltb-true row (height - 6) inside); left = omega arith; right = omega arith } in
-      always-bind _ (row-fit width row 6 circles at each few) λ now held.
+      let at : Searchable shape row 6 = searchable-first limits (omega (arith, ltb-true row (shape .height - 6) inside)) in
+      always-bind _ (row-fit (shape .width) row 6 circles limits at each few) λ now held.
       always-cond (ltb capacity (length now))
       (λ _. always-done held)
-      (λ room. rows-fit n (row + 2) now narrow low wide (held .0) (ltb-false capacity (length now) room)))
+      (λ room. rows-fit n (row + 2) now limits (held .0) (ltb-false capacity (length now) room)))
       (λ _. always-done (each, omega arith))
 
-  pub circles-fit : width ≤ 2048 → height ≤ 2048 → 12 < width → Always Candidates (concentricCircles rowWords size width height capacity)
-  unfolding concentricCirclesBy Each
-  circles-fit narrow low wide = rows-fit height 6 [] narrow low wide tt (omega arith)
+-- Each is a candidate of the image, and there is at most one more than the capacity.
+pub all-candidates : (shape : Shape) (capacity : ℕ) → Limits shape
+    → Always (λ (rs : List Record). Each (Candidate shape) rs × (length rs ≤ capacity + 1)) (concentricCircles shape capacity)
+unfolding concentricCirclesBy Each
+all-candidates shape capacity limits = rows-fit shape capacity (shape .height) 6 [] limits tt (omega arith)
 
 -- ---- with the source's test of the widths
 
-module _ (rowWords size : ℕ) {width height : ℕ} (narrow : width ≤ 2048) (low : height ≤ 2048) where
-  same-search : (row column : ℕ) → Same (searchBy validWidthsF32 rowWords size width height row column) (searchFrom rowWords size width height row column)
+module _ (shape : Shape) (narrow : shape .width ≤ 2048) (low : shape .height ≤ 2048) where
+  same-search : (row column : ℕ) → Same (searchBy validWidthsF32 shape row column) (searchFrom shape row column)
   unfolding searchBy
   same-search row column =
-      same-after _ _ (same-rows-f32 rowWords size width row column (omega arith)) λ eye.
+      same-after _ _ (same-rows-f32 shape row column (omega arith)) λ eye.
       same-cond (eye .found)
-      (λ _. same-after _ _ (same-vertical-f32 rowWords size height row low (eye .center)) λ seen. same-refl)
+      (λ _. same-after _ _ (same-vertical-f32 shape row low (eye .center)) λ seen. same-refl)
       (λ _. same-refl)
 
   module _ (capacity : ℕ) where
     same-row : (n row column : ℕ) (circles : List Record)
-        → Same (rowBy validWidthsF32 rowWords size width height capacity n row column circles) (rowFrom rowWords size width height capacity n row column circles)
+        → Same (rowBy validWidthsF32 shape capacity n row column circles) (rowFrom shape capacity n row column circles)
     unfolding rowBy
     same-row zero row column circles = same-refl
     same-row (suc n) row column circles =
@@ -261,17 +264,17 @@ module _ (rowWords size : ℕ) {width height : ℕ} (narrow : width ≤ 2048) (l
         same-cond (s .ended || ltb capacity (length (after circles s))) (λ _. same-refl) λ _. same-row n row (s .column) (after circles s)
 
     same-rows : (n row : ℕ) (circles : List Record)
-        → Same (rowsBy validWidthsF32 rowWords size width height capacity n row circles) (rowsFrom rowWords size width height capacity n row circles)
+        → Same (rowsBy validWidthsF32 shape capacity n row circles) (rowsFrom shape capacity n row circles)
     unfolding rowsBy
     same-rows zero row circles = same-refl
     same-rows (suc n) row circles =
-        same-cond (ltb row (height - 6))
+        same-cond (ltb row (shape .height - 6))
         (λ _.
-        same-after _ _ (same-row width row 6 circles) λ now.
+        same-after _ _ (same-row (shape .width) row 6 circles) λ now.
         same-cond (ltb capacity (length now)) (λ _. same-refl) λ _. same-rows n (row + 2) now)
         (λ _. same-refl)
 
     -- The sweep with the source's f32 test has the candidates and the reads of the sweep with the whole-number one.
-    pub same-sweep-f32 : Same (concentricCirclesBy validWidthsF32 rowWords size width height capacity) (concentricCircles rowWords size width height capacity)
+    pub same-sweep-f32 : Same (concentricCirclesBy validWidthsF32 shape capacity) (concentricCircles shape capacity)
     unfolding concentricCirclesBy
-    same-sweep-f32 = same-rows height 6 []
+    same-sweep-f32 = same-rows (shape .height) 6 []

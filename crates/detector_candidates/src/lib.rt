@@ -1,12 +1,14 @@
 // `find_concentric_circles` of detector.rs: the candidates of an image, into the record buffer that stands for the source's vector of circles.
 ghost use mathlib.Core.Path.{_≡_};
 ghost use mathlib.Core.List.{_++_};
-ghost use Prim.Native.Nat.{_+_, _*_, _^_, _≤_, _<_};
-ghost use lib.ListN.{length, take, drop, replicate};
+ghost use Prim.Native.Nat.{_+_, _^_, _≤_, _<_};
+ghost use lib.ListN.{take, drop};
 ghost use Rattle.reads.specs.Runs.{Ran};
+ghost use Rattle.bit_matrix.specs.Shape.{Image};
 ghost use Rattle.records.specs.Records.{rows};
-ghost use Rattle.detector_candidates.specs.Candidates.{candidateOf, nothing, passed, failed, searchFrom, after, rowFrom, concentricCircles, Room, Stored, Listed};
-ghost use Rattle.detector_candidates.specs.CandidatesLaws.{Searchable};
+ghost use Rattle.detector_candidates.specs.Candidates.{candidateOf, nothing, passed, failed, after};
+ghost use Rattle.detector_candidates.specs.Candidates.{Searchable, searchFrom, rowFrom, concentricCircles, Room, Stored, Listed};
+use bit_matrix::Shape;
 use detector_rows::Bullseye;
 
 // What one search of a row gives: whether a bull's-eye passed, and then its record; whether the row ends, and otherwise where the next search starts.
@@ -36,12 +38,12 @@ fn candidate_of(row: u32, eye: Bullseye, vertical: [u32; 11]) -> [u32; 40]
     ensures { λ r. ⌜ r ≡ candidateOf row eye vertical ⌝ }
 {
     let mut fields = [0u32; 40];
-    fields[0] = eye.center;
-    fields[1] = row;
-    fields[2] = eye.radius;
+    fields[records::CENTER_X] = eye.center;
+    fields[records::CENTER_Y] = row;
+    fields[records::RADIUS] = eye.radius;
     let horizontal = eye.buckets;
-    let with_row = with_runs(fields, 3, horizontal);
-    with_runs(with_row, 14, vertical)
+    let with_row = with_runs(fields, records::ROW_RUNS, horizontal);
+    with_runs(with_row, records::COLUMN_RUNS, vertical)
 }
 
 // No window: the row ends.
@@ -86,38 +88,16 @@ fn bullseye_failed(column: u32, eye: Bullseye) -> Searched
 }
 
 // One search of a row, from a column on: a window, and whether its column passes too.
-fn search_from(
-    words: &[u64],
-    marks: &mut [u64],
-    row_words: usize,
-    width: u32,
-    height: u32,
-    row: u32,
-    column: u32,
-) -> Searched
-    requires { ⌜ (length (now marks) ≡ length (now words)) × («row_words» < 2 ^ 32) ⌝ ∗ ⌜ Searchable width height row column ⌝ }
-    ensures { λ r. ⌜ Ran (searchFrom «row_words» (length (now (words .entry))) width height row column) (now (words .entry)) (now (marks .entry)) r (now (marks .exit)) ⌝ }
+fn search_from(words: &[u64], marks: &mut [u64], shape: Shape, row: u32, column: u32) -> Searched
+    requires { ⌜ Image shape (now words) (now marks) × Searchable shape row column ⌝ }
+    ensures { λ r. ⌜ Ran (searchFrom shape row column) (now (words .entry)) (now (marks .entry)) r (now (marks .exit)) ⌝ }
 {
-    let eye = detector_rows::find_next_bullseye_horizontal(
-        words,
-        marks,
-        row_words,
-        width,
-        row,
-        column,
-    );
+    let eye = detector_rows::find_next_bullseye_horizontal(words, marks, shape, row, column);
     if !eye.found {
         return nothing_found(column);
     }
     let center = eye.center;
-    let seen = detector_columns::verify_bullseye_vertical(
-        words,
-        marks,
-        row_words,
-        height,
-        row,
-        center,
-    );
+    let seen = detector_columns::verify_bullseye_vertical(words, marks, shape, row, center);
     if seen.good {
         let vertical = seen.buckets;
         return bullseye_passed(row, eye, vertical);
@@ -126,9 +106,9 @@ fn search_from(
 }
 
 // A search's candidate goes behind the others. One more than the capacity is counted and not stored.
-fn append(circles: &mut [u32], capacity: usize, count: usize, s: Searched) -> usize
-    requires { ⌜ Room capacity (now circles) count ⌝ }
-    ensures { λ r. ⌜ Stored capacity (now (circles .entry)) (after (rows count (now (circles .entry))) s) r (now (circles .exit)) ⌝ }
+fn append(records: &mut [u32], capacity: usize, count: usize, s: Searched) -> usize
+    requires { ⌜ Room capacity (now records) count ⌝ }
+    ensures { λ r. ⌜ Stored capacity (now (records .entry)) (after (rows count (now (records .entry))) s) r (now (records .exit)) ⌝ }
 {
     if !s.passed {
         return count;
@@ -137,7 +117,7 @@ fn append(circles: &mut [u32], capacity: usize, count: usize, s: Searched) -> us
         return count + 1;
     }
     let candidate = s.candidate;
-    records::store(circles, count, &candidate);
+    records::store(records, count, &candidate);
     count + 1
 }
 
@@ -145,22 +125,21 @@ fn append(circles: &mut [u32], capacity: usize, count: usize, s: Searched) -> us
 fn sweep_row(
     words: &[u64],
     marks: &mut [u64],
-    circles: &mut [u32],
-    row_words: usize,
-    width: u32,
-    height: u32,
+    records: &mut [u32],
+    shape: Shape,
     capacity: usize,
     row: u32,
     found: usize,
 ) -> usize
-    requires { ⌜ (length (now marks) ≡ length (now words)) × («row_words» < 2 ^ 32) ⌝ ∗ ⌜ Searchable width height row 6 ⌝ ∗ ⌜ Room capacity (now circles) found ⌝ }
-    ensures { λ r. ⌜ Listed (rowFrom «row_words» (length (now (words .entry))) width height capacity width row 6 (rows found (now (circles .entry)))) capacity (now (words .entry)) (now (marks .entry)) (now (circles .entry)) r (now (marks .exit)) (now (circles .exit)) ⌝ }
+    requires { ⌜ Image shape (now words) (now marks) × (row < shape .height) × Room capacity (now records) found ⌝ }
+    ensures { λ r. ⌜ Listed (rowFrom shape capacity (shape .width) row 6 (rows found (now (records .entry)))) capacity
+        (now (words .entry)) (now (marks .entry)) (now (records .entry)) r (now (marks .exit)) (now (records .exit)) ⌝ }
 {
     let mut count = found;
     let mut column = 6u32;
-    while column < width - 6 {
-        let s = search_from(words, marks, row_words, width, height, row, column);
-        count = append(circles, capacity, count, s);
+    while column < shape.width - 6 {
+        let s = search_from(words, marks, shape, row, column);
+        count = append(records, capacity, count, s);
         if s.ended {
             return count;
         }
@@ -176,29 +155,18 @@ fn sweep_row(
 pub fn find_concentric_circles(
     words: &[u64],
     marks: &mut [u64],
-    circles: &mut [u32],
-    row_words: usize,
-    width: u32,
-    height: u32,
+    records: &mut [u32],
+    shape: Shape,
     capacity: usize,
 ) -> usize
-    requires { ⌜ (length (now marks) ≡ length (now words)) × («row_words» < 2 ^ 32) × (12 < width) × (width ≤ 2048) × (12 < height) × (height ≤ 2048) ⌝ ∗ ⌜ Room capacity (now circles) 0 ⌝ }
-    ensures { λ r. ⌜ Listed (concentricCircles «row_words» (length (now (words .entry))) width height capacity) capacity (now (words .entry)) (now (marks .entry)) (now (circles .entry)) r (now (marks .exit)) (now (circles .exit)) ⌝ }
+    requires { ⌜ Image shape (now words) (now marks) × Room capacity (now records) 0 ⌝ }
+    ensures { λ r. ⌜ Listed (concentricCircles shape capacity) capacity
+        (now (words .entry)) (now (marks .entry)) (now (records .entry)) r (now (marks .exit)) (now (records .exit)) ⌝ }
 {
     let mut found = 0usize;
     let mut row = 6u32;
-    while row < height - 6 {
-        found = sweep_row(
-            words,
-            marks,
-            circles,
-            row_words,
-            width,
-            height,
-            capacity,
-            row,
-            found,
-        );
+    while row < shape.height - 6 {
+        found = sweep_row(words, marks, records, shape, capacity, row, found);
         if found > capacity {
             return found;
         }

@@ -1,9 +1,9 @@
 -- The corrected centre of detector.rs: the centre of the circle through three points, each operation rounded once in the Rust's order, and as a pixel.
 -- Definitions only. Assumes nothing.
-use Prim.Native.Nat.{ℕ}
 use lib.Ieee.{Float, binary32, add, sub, mul, div}
 use Rattle.ieee.specs.Sign.{abs}
 use Rattle.reads.specs.Reads.{Reads, done, _>>=_}
+use Rattle.bit_matrix.specs.declared.Shape.{Shape}
 use Rattle.rxing_result_point.specs.declared.Point.{Point}
 use Rattle.rxing_result_point.specs.declared.PointU.{PointU}
 use Rattle.rxing_result_point.specs.Points.{real, rounded}
@@ -34,8 +34,8 @@ findCenter p q r =
     record { x = abs (div binary32 bx (real 2 ⊗ a)); y = abs (div binary32 by (real 2 ⊗ a)) }
 
 -- `calculate_high_accuracy_center`: through both ends at 7 degrees and the left end at 97, whose right end is unused
-unfoldable pub corrected : ℕ → ℕ → PointU → Reads PointU
-corrected rowWords size center = do
-  first ← findWidthAtDegree rowWords size center 7
-  second ← findWidthAtDegree rowWords size center 97
+unfoldable pub corrected : Shape → PointU → Reads PointU
+corrected shape center = do
+  first ← findWidthAtDegree shape center 7
+  second ← findWidthAtDegree shape center 97
   done (rounded (findCenter (first .left) (first .right) (second .left)))

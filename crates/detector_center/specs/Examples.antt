@@ -12,20 +12,26 @@ use Rattle.reads.specs.Bits.{testBit, bitAt}
 use Rattle.reads.specs.Runs.{valueOf}
 use Rattle.sines.specs.Sines.{sineOf}
 use Rattle.sines.specs.Rules.{scaled}
+use Rattle.bit_matrix.specs.declared.Shape.{Shape}
+use Rattle.bit_matrix.specs.Shape.{shapeOf}
 use Rattle.bit_matrix.specs.Pixels.{pixel}
 use Rattle.rxing_result_point.specs.declared.PointU.{PointU}
 use Rattle.rxing_result_point.specs.Points.{turned}
 use Rattle.detector_walks.specs.Walks.{whitePixel, stepsOf, leftFrom, rightFrom, walk, findEnds}
 use Rattle.detector_center.specs.Center.{findCenter, corrected}
 
--- 33 columns and rows of one word each: the centre and the pixel left of it are black
+-- 33 columns and rows of one word each
+abbrev smallest : Shape
+smallest = shapeOf 33 33
+
+-- the centre and the pixel left of it are black
 abbrev blackCenter : List ℕ
 blackCenter = replicate 16 0 ++ (2 ^ 15 + 2 ^ 16) ∷ replicate 16 0
 
 abbrev center : PointU
 center = record { x = 16; y = 16 }
 
-pub black-center : (valueOf (corrected 1 33 center) blackCenter ≡ record { x = 0; y = 0 })
-    × (trace (corrected 1 33 center) (bitAt blackCenter) ≡ 1040 ∷ 1040 ∷ 1040 ∷ 1039 ∷ [])
+pub black-center : (valueOf (corrected smallest center) blackCenter ≡ record { x = 0; y = 0 })
+    × (trace (corrected smallest center) (bitAt blackCenter) ≡ 1040 ∷ 1040 ∷ 1040 ∷ 1039 ∷ [])
 unfolding valueOf value trace _>>=_ testBit bitAt pixel whitePixel stepsOf leftFrom rightFrom walk findEnds findCenter corrected turned sineOf scaled ofBits ofInt add sub mul div toUnsigned abs floor roundTiesToAway
 black-center = (refl, refl)

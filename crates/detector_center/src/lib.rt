@@ -1,12 +1,11 @@
 // `calculate_high_accuracy_center` of detector.rs: the centre of the circle through three ends of walks, as a pixel. Each stored bit that the walks read is
 // marked.
+use bit_matrix::Shape;
 use rxing_result_point::Point;
 use rxing_result_point::PointU;
 ghost use mathlib.Core.Path.{_≡_};
-ghost use lib.ListN.{length};
 ghost use Rattle.reads.specs.Runs.{Ran};
-ghost use Rattle.sines.specs.Sines.{sines};
-ghost use Rattle.detector_walks.specs.Walks.{CenterWithin};
+ghost use Rattle.detector_walks.specs.Walks.{Lent};
 ghost use Rattle.detector_center.specs.Center.{findCenter, corrected};
 
 // The centre of the circle through three points. The quotients are NaN or infinite where no circle goes through them.
@@ -36,15 +35,15 @@ pub fn find_center(p1: Point, p2: Point, p3: Point) -> Point
 pub fn corrected_center(
     words: &[u64],
     marks: &mut [u64],
-    row_words: usize,
+    shape: Shape,
     center: PointU,
     table: &[f32; 360],
 ) -> PointU
-    requires { ⌜ length (now marks) ≡ length (now words) ⌝ ∗ ⌜ CenterWithin (length (now words)) «row_words» center ⌝ ∗ ⌜ now table ≡ sines ⌝ }
-    ensures { λ r. ⌜ Ran (corrected «row_words» (length (now (words .entry))) center) (now (words .entry)) (now (marks .entry)) r (now (marks .exit)) ⌝ }
+    requires { ⌜ Lent shape (now words) (now marks) center (now table) ⌝ }
+    ensures { λ r. ⌜ Ran (corrected shape center) (now (words .entry)) (now (marks .entry)) r (now (marks .exit)) ⌝ }
 {
-    let first = detector_walks::find_width_at_degree(words, marks, row_words, center, table, 7);
-    let second = detector_walks::find_width_at_degree(words, marks, row_words, center, table, 97);
+    let first = detector_walks::find_width_at_degree(words, marks, shape, center, table, 7);
+    let second = detector_walks::find_width_at_degree(words, marks, shape, center, table, 97);
     let found = find_center(first.left, first.right, second.left);
     rxing_result_point::round_to_point_u(found)
 }

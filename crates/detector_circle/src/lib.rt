@@ -1,11 +1,9 @@
 // `calculate_high_accuracy_center` of detector.rs: the corrected centre, written into a circle that is lent.
+use bit_matrix::Shape;
 use rxing_result_point::PointU;
-ghost use mathlib.Core.Path.{_≡_};
-ghost use lib.ListN.{length};
 ghost use Rattle.reads.specs.Runs.{Ran};
-ghost use Rattle.sines.specs.Sines.{sines};
-ghost use Rattle.detector_walks.specs.Walks.{CenterWithin};
-ghost use Rattle.detector_center.specs.Center.{corrected};
+ghost use Rattle.detector_walks.specs.Walks.{Lent};
+ghost use Rattle.detector_circle.specs.Circle.{correctedCircle};
 
 // What the centre's correction has of the source's circle; the image is lent beside it, and the runs have no part in it.
 pub struct Circle {
@@ -13,32 +11,33 @@ pub struct Circle {
     pub radius: u32,
 }
 
-// The corrected centre, its conditions as one fact, so that the proof by hand below cites one.
-fn center_of(
+// The circle is lent: its centre is replaced, and its radius stays.
+pub fn calculate_high_accuracy_center(
+    circle: &mut Circle,
     words: &[u64],
     marks: &mut [u64],
-    row_words: usize,
-    center: PointU,
+    shape: Shape,
     table: &[f32; 360],
-) -> PointU
-    requires { ⌜ (length (now marks) ≡ length (now words)) × CenterWithin (length (now words)) «row_words» center × (now table ≡ sines) ⌝ }
-    ensures { λ r. ⌜ Ran (corrected «row_words» (length (now (words .entry))) center) (now (words .entry)) (now (marks .entry)) r (now (marks .exit)) ⌝ }
-{
-    detector_center::corrected_center(words, marks, row_words, center, table)
-}
-
-// The circle is lent: its centre is replaced, and its radius stays.
-pub fn calculate_high_accuracy_center<'c, 'w, 'm, 't>(
-    circle: &'c mut Circle,
-    words: &'w [u64],
-    marks: &'m mut [u64],
-    row_words: usize,
-    table: &'t [f32; 360],
 )
-    requires { ⌜ (length (now marks) ≡ length (now words)) × CenterWithin (length (now words)) «row_words» (now circle .center) × (now table ≡ sines) ⌝ }
-    ensures { λ _. ⌜ (now (circle .exit) .radius ≡ now (circle .entry) .radius)
-        × Ran (corrected «row_words» (length (now (words .entry))) (now (circle .entry) .center)) (now (words .entry)) (now (marks .entry)) (now (circle .exit) .center) (now (marks .exit)) ⌝ }
+    requires { ⌜ Lent shape (now words) (now marks) (now circle .center) (now table) ⌝ }
+    ensures { λ _. ⌜ Ran (correctedCircle shape (now (circle .entry))) (now (words .entry)) (now (marks .entry)) (now (circle .exit)) (now (marks .exit)) ⌝ }
 {
     let center = circle.center;
-    circle.center = center_of(words, marks, row_words, center, table);
+    circle.center = detector_center::corrected_center(words, marks, shape, center, table);
+}
+
+// The circle by value, lent to the centre's correction and given back, so that a loop over it stays covered.
+pub fn with_corrected_center(
+    circle: Circle,
+    words: &[u64],
+    marks: &mut [u64],
+    shape: Shape,
+    table: &[f32; 360],
+) -> Circle
+    requires { ⌜ Lent shape (now words) (now marks) (circle .center) (now table) ⌝ }
+    ensures { λ r. ⌜ Ran (correctedCircle shape circle) (now (words .entry)) (now (marks .entry)) r (now (marks .exit)) ⌝ }
+{
+    let mut corrected = circle;
+    calculate_high_accuracy_center(&mut corrected, words, marks, shape, table);
+    corrected
 }

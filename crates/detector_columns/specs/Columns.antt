@@ -1,4 +1,4 @@
--- The vertical check of detector.rs (document 01, "Candidates"), as reading programs. `rowWords` and `size` are the image's words in a row and in all;
+-- The vertical check of detector.rs (document 01, "Candidates"), as reading programs.
 -- `valid` is the test of the widths, the whole-number one or the source's in f32 (detector_widths/specs/Widths.antt). Definitions only. Assumes nothing.
 use Prim.Native.Nat.{ℕ, zero, suc, _+_, _-_}
 use mathlib.Core.Bool.{Bool, true, false, cond, Bool·beq}
@@ -6,6 +6,7 @@ use mathlib.Core.List.{List, [], _∷_}
 use lib.Dec.{ltb}
 use lib.ListN.{replicate}
 use Rattle.reads.specs.Reads.{Reads, done, _>>=_}
+use Rattle.bit_matrix.specs.declared.Shape.{Shape}
 use Rattle.bit_matrix.specs.Pixels.{pixel}
 use Rattle.detector_widths.specs.Buckets.{bump}
 use Rattle.detector_widths.specs.Widths.{at, validWidths}
@@ -25,19 +26,19 @@ unfoldable pub rowsLeft : Bool → ℕ → ℕ → ℕ
 rowsLeft true height row = cond (ltb 0 row) (height - row) 0
 rowsLeft false height row = cond (ltb row height) row 0
 
-module _ (rowWords size column : ℕ) (lookingUp : Bool) where
+module _ (shape : Shape) (column : ℕ) (lookingUp : Bool) where
   -- with n rows left. The pixel that opens a seventh run is read, and ends the count.
   unfoldable pub vectorFrom : ℕ → ℕ → Bool → ℕ → List ℕ → Reads (List ℕ)
   vectorFrom zero row last pointer buckets = done buckets
   vectorFrom (suc n) row last pointer buckets = do
-    black ← pixel rowWords size column row
+    black ← pixel shape column row
     let next = pointerAfter pointer black last
     cond (ltb 5 next) (done buckets) (vectorFrom n (rowAfter row lookingUp) black next (bump buckets next))
 
 -- six runs, white first
-unfoldable pub columnVector : ℕ → ℕ → ℕ → ℕ → ℕ → Bool → Reads (List ℕ)
-columnVector rowWords size height column startRow lookingUp =
-    vectorFrom rowWords size column lookingUp (rowsLeft lookingUp height startRow) startRow false 0 (replicate 6 0)
+unfoldable pub columnVector : Shape → ℕ → ℕ → Bool → Reads (List ℕ)
+columnVector shape column startRow lookingUp =
+    vectorFrom shape column lookingUp (rowsLeft lookingUp (shape .height) startRow) startRow false 0 (replicate 6 0)
 
 -- ---- `build_potential_bullsey_array`
 -- the first vector backwards, then the second; their first runs are one, run 5
@@ -45,19 +46,19 @@ abbrev pub potentialBullseyeArray : List ℕ → List ℕ → List ℕ
 potentialBullseyeArray v w = at v 5 ∷ at v 4 ∷ at v 3 ∷ at v 2 ∷ at v 1 ∷ (at v 0 + at w 0) ∷ at w 1 ∷ at w 2 ∷ at w 3 ∷ at w 4 ∷ at w 5 ∷ []
 
 -- ---- `verify_bullseye_vertical`
-module _ (rowWords size height row : ℕ) where
+module _ (shape : Shape) (row : ℕ) where
   -- the eleven runs of a column: up is read first, and stands last
   unfoldable pub potentialBullseye : ℕ → Reads (List ℕ)
   potentialBullseye column = do
-    up ← columnVector rowWords size height column row true
-    down ← columnVector rowWords size height column row false
+    up ← columnVector shape column row true
+    down ← columnVector shape column row false
     done (potentialBullseyeArray down up)
 
-module _ (valid : List ℕ → Bool) (rowWords size height row : ℕ) where
+module _ (valid : List ℕ → Bool) (shape : Shape) (row : ℕ) where
   -- the check of one column
   unfoldable pub tryColumnBy : ℕ → Reads Verified
   tryColumnBy column = do
-    buckets ← potentialBullseye rowWords size height row column
+    buckets ← potentialBullseye shape row column
     done (record { good = valid buckets; buckets = buckets })
 
   -- a column, then the next, then the one before, until one passes
@@ -69,8 +70,8 @@ module _ (valid : List ℕ → Bool) (rowWords size height row : ℕ) where
       cond (right .good) (done right) (tryColumnBy (column - 1)))
 
 -- ---- with the test in whole numbers; with the source's in f32 results and reads are the same: `same-vertical-f32`, ColumnsLaws.antt
-abbrev pub tryColumn : ℕ → ℕ → ℕ → ℕ → ℕ → Reads Verified
+abbrev pub tryColumn : Shape → ℕ → ℕ → Reads Verified
 tryColumn = tryColumnBy validWidths
 
-abbrev pub verifyBullseyeVertical : ℕ → ℕ → ℕ → ℕ → ℕ → Reads Verified
+abbrev pub verifyBullseyeVertical : Shape → ℕ → ℕ → Reads Verified
 verifyBullseyeVertical = verifyBullseyeVerticalBy validWidths

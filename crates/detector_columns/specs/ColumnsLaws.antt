@@ -13,6 +13,7 @@ use lib.Seq.{getD-set-same, getD-set-other, set-out}
 use Rattle.reads.specs.Reads.{Always, Same}
 use Rattle.reads.specs.ReadsLaws.{always-done, always-bind, always-after, always-cond, same-refl, same-bind, same-after, same-cond}
 use Rattle.reads.specs.BitsLaws.{getD-zeros}
+use Rattle.bit_matrix.specs.declared.Shape.{Shape}
 use Rattle.bit_matrix.specs.Pixels.{pixel}
 use Rattle.detector_widths.specs.Buckets.{bump}
 use Rattle.detector_widths.specs.Widths.{at, evenTotal, oddTotal, validWidths, validWidthsF32}
@@ -60,24 +61,24 @@ rows-le false height row = go (decLt row height)
     go (yes h) = rw (lt-ltb row height h) (omega arith)
     go (no h) = rw (le-ltb row height (omega arith)) (omega arith)
 
-module _ (rowWords size column : ℕ) (lookingUp : Bool) (most : ℕ) where
+module _ (shape : Shape) (column : ℕ) (lookingUp : Bool) (most : ℕ) where
   vector-from-le : (n row : ℕ) (last : Bool) (pointer : ℕ) (buckets : List ℕ)
-      → ((k : ℕ) → at buckets k + n ≤ most) → Always (AtMost most) (vectorFrom rowWords size column lookingUp n row last pointer buckets)
+      → ((k : ℕ) → at buckets k + n ≤ most) → Always (AtMost most) (vectorFrom shape column lookingUp n row last pointer buckets)
   unfolding vectorFrom
   vector-from-le zero row last pointer buckets room = always-done (record { run = λ k. omega (arith, room k) })
   vector-from-le (suc n) row last pointer buckets room =
-      always-after (pixel rowWords size column row) _ λ black.
+      always-after (pixel shape column row) _ λ black.
       always-cond (ltb 5 (pointerAfter pointer black last))
       (λ _. always-done (record { run = λ k. omega (arith, room k) }))
       (λ _. vector-from-le n _ black _ _ λ k. omega (arith, room k, bump-le buckets (pointerAfter pointer black last) k))
 
 -- no run is longer than the rows
-pub column-vector-le : (rowWords size height column startRow : ℕ) (lookingUp : Bool)
-    → Always (AtMost height) (columnVector rowWords size height column startRow lookingUp)
+pub column-vector-le : (shape : Shape) (column startRow : ℕ) (lookingUp : Bool)
+    → Always (AtMost (shape .height)) (columnVector shape column startRow lookingUp)
 unfolding columnVector
-column-vector-le rowWords size height column startRow lookingUp =
-    vector-from-le rowWords size column lookingUp height (rowsLeft lookingUp height startRow) startRow false 0 (replicate 6 0)
-    λ k. rw (getD-zeros 6 k) (omega (arith, rows-le lookingUp height startRow))
+column-vector-le shape column startRow lookingUp =
+    vector-from-le shape column lookingUp (shape .height) (rowsLeft lookingUp (shape .height) startRow) startRow false 0 (replicate 6 0)
+    λ k. rw (getD-zeros 6 k) (omega (arith, rows-le lookingUp (shape .height) startRow))
 
 -- ---- eleven runs
 
@@ -116,20 +117,20 @@ array-bounded {height} {v} {w} down up =
 bounded-widths : {height : ℕ} {buckets : List ℕ} → height ≤ 2048 → Bounded height buckets → validWidthsF32 buckets ≡ validWidths buckets
 bounded-widths {buckets = buckets} low bounded = same-widths buckets (omega (arith, bounded .evens)) (omega (arith, bounded .odds))
 
-module _ (rowWords size height row : ℕ) where
-  pub potential-bounded : (column : ℕ) → Always (Bounded height) (potentialBullseye rowWords size height row column)
+module _ (shape : Shape) (row : ℕ) where
+  pub potential-bounded : (column : ℕ) → Always (Bounded (shape .height)) (potentialBullseye shape row column)
   unfolding potentialBullseye
   potential-bounded column =
-      always-bind _ (column-vector-le rowWords size height column row true) λ up up-le.
-      always-bind _ (column-vector-le rowWords size height column row false) λ down down-le.
+      always-bind _ (column-vector-le shape column row true) λ up up-le.
+      always-bind _ (column-vector-le shape column row false) λ down down-le.
       always-done (array-bounded down-le up-le)
 
-  try-bounded : (column : ℕ) → Always (λ (verified : Verified). Bounded height (verified .buckets)) (tryColumn rowWords size height row column)
+  try-bounded : (column : ℕ) → Always (λ (verified : Verified). Bounded (shape .height) (verified .buckets)) (tryColumn shape row column)
   unfolding tryColumnBy
   try-bounded column = always-bind _ (potential-bounded column) λ buckets bounded. always-done bounded
 
   pub verified-bounded : (column : ℕ)
-      → Always (λ (verified : Verified). Bounded height (verified .buckets)) (verifyBullseyeVertical rowWords size height row column)
+      → Always (λ (verified : Verified). Bounded (shape .height) (verified .buckets)) (verifyBullseyeVertical shape row column)
   unfolding verifyBullseyeVerticalBy
   verified-bounded column =
       always-bind _ (try-bounded column) λ here here-bounded.
@@ -139,14 +140,14 @@ module _ (rowWords size height row : ℕ) where
 
   -- ---- with the source's test of the widths
 
-  same-try : height ≤ 2048 → (column : ℕ) → Same (tryColumnBy validWidthsF32 rowWords size height row column) (tryColumn rowWords size height row column)
+  same-try : shape .height ≤ 2048 → (column : ℕ) → Same (tryColumnBy validWidthsF32 shape row column) (tryColumn shape row column)
   unfolding tryColumnBy
   same-try low column =
       same-bind _ _ same-refl (potential-bounded column) λ buckets bounded. rw (bounded-widths low bounded) same-refl
 
   -- The check with the source's f32 test has the results and the reads of the check with the whole-number one.
-  pub same-vertical-f32 : height ≤ 2048 → (column : ℕ)
-      → Same (verifyBullseyeVerticalBy validWidthsF32 rowWords size height row column) (verifyBullseyeVertical rowWords size height row column)
+  pub same-vertical-f32 : shape .height ≤ 2048 → (column : ℕ)
+      → Same (verifyBullseyeVerticalBy validWidthsF32 shape row column) (verifyBullseyeVertical shape row column)
   unfolding verifyBullseyeVerticalBy
   same-vertical-f32 low column =
       same-after _ _ (same-try low column) λ here.

@@ -6,6 +6,7 @@ use mathlib.Core.Path.{_≡_, refl}
 use Rattle.reads.specs.Reads.{Reads, _>>=_, value, trace}
 use Rattle.reads.specs.Bits.{testBit, bitAt}
 use Rattle.reads.specs.Runs.{valueOf}
+use Rattle.bit_matrix.specs.Shape.{shapeOf}
 use Rattle.bit_matrix.specs.Pixels.{pixel}
 use Rattle.detector_widths.specs.Widths.{evenRunsPass, oddRunsPass, validWidths}
 use Rattle.detector_widths.specs.Buckets.{bump}
@@ -17,7 +18,7 @@ abbrev stripes : List ℕ
 stripes = 2 ∷ 0 ∷ 2 ∷ 0 ∷ 2 ∷ 0 ∷ 2 ∷ 0 ∷ 2 ∷ 0 ∷ 2 ∷ 0 ∷ []
 
 abbrev verifyAt : ℕ → Reads Verified
-verifyAt column = verifyBullseyeVertical 1 12 12 6 column
+verifyAt column = verifyBullseyeVertical (shapeOf 64 12) 6 column
 
 -- from the black pixel in row 6: run 5 is 0, and runs 4 and 6 both count row 6
 abbrev blackCentre : Verified

@@ -1,8 +1,10 @@
 // The vertical check of detector.rs: the runs of a column up and down from a row, and whether they are as wide as a bull's-eye's.
+use bit_matrix::Shape;
 ghost use mathlib.Core.Path.{_≡_};
 ghost use Prim.Native.Nat.{_+_, _^_, _≤_, _<_};
-ghost use lib.ListN.{length, getD};
+ghost use lib.ListN.{getD};
 ghost use Rattle.reads.specs.Runs.{Ran};
+ghost use Rattle.bit_matrix.specs.Shape.{Image};
 ghost use Rattle.detector_columns.specs.Columns.{pointerAfter, rowAfter, columnVector, potentialBullseyeArray, tryColumn, verifyBullseyeVertical};
 
 // What the vertical check answers: whether a column passed, and the eleven runs of the last one tried.
@@ -35,21 +37,20 @@ fn next_row(row: u32, looking_up: bool) -> u32
 pub fn get_column_vector(
     words: &[u64],
     marks: &mut [u64],
-    row_words: usize,
-    height: u32,
+    shape: Shape,
     column: u32,
     start_row: u32,
     looking_up: bool,
 ) -> [u32; 6]
-    requires { ⌜ (length (now marks) ≡ length (now words)) × («row_words» < 2 ^ 32) ⌝ }
-    ensures { λ r. ⌜ Ran (columnVector «row_words» (length (now (words .entry))) height column «start_row» «looking_up») (now (words .entry)) (now (marks .entry)) r (now (marks .exit)) ⌝ }
+    requires { ⌜ Image shape (now words) (now marks) ⌝ }
+    ensures { λ r. ⌜ Ran (columnVector shape column «start_row» «looking_up») (now (words .entry)) (now (marks .entry)) r (now (marks .exit)) ⌝ }
 {
     let mut buckets = [0u32; 6];
     let mut row = start_row;
     let mut last_color = false;
     let mut pointer = 0usize;
-    while row > 0 && row < height {
-        let local_bit = bit_matrix::get(words, marks, row_words, column, row);
+    while row > 0 && row < shape.height {
+        let local_bit = bit_matrix::get(words, marks, shape, column, row);
         pointer = next_pointer(pointer, local_bit, last_color);
         if pointer > 5 {
             break;
@@ -82,19 +83,12 @@ pub fn build_potential_bullsey_array(vector_1: &[u32; 6], vector_2: &[u32; 6]) -
 }
 
 // The check of one column.
-fn try_column(
-    words: &[u64],
-    marks: &mut [u64],
-    row_words: usize,
-    height: u32,
-    row: u32,
-    column: u32,
-) -> Verified
-    requires { ⌜ (length (now marks) ≡ length (now words)) × («row_words» < 2 ^ 32) × (height ≤ 2048) ⌝ }
-    ensures { λ r. ⌜ Ran (tryColumn «row_words» (length (now (words .entry))) height row column) (now (words .entry)) (now (marks .entry)) r (now (marks .exit)) ⌝ }
+fn try_column(words: &[u64], marks: &mut [u64], shape: Shape, row: u32, column: u32) -> Verified
+    requires { ⌜ Image shape (now words) (now marks) ⌝ }
+    ensures { λ r. ⌜ Ran (tryColumn shape row column) (now (words .entry)) (now (marks .entry)) r (now (marks .exit)) ⌝ }
 {
-    let up_vector = get_column_vector(words, marks, row_words, height, column, row, true);
-    let down_vector = get_column_vector(words, marks, row_words, height, column, row, false);
+    let up_vector = get_column_vector(words, marks, shape, column, row, true);
+    let down_vector = get_column_vector(words, marks, shape, column, row, false);
     let potential_bullseye = build_potential_bullsey_array(&down_vector, &up_vector);
     let good = detector_widths::validate_bullseye_widths(&potential_bullseye);
     Verified {
@@ -107,21 +101,20 @@ fn try_column(
 pub fn verify_bullseye_vertical(
     words: &[u64],
     marks: &mut [u64],
-    row_words: usize,
-    height: u32,
+    shape: Shape,
     row: u32,
     column: u32,
 ) -> Verified
-    requires { ⌜ (length (now marks) ≡ length (now words)) × («row_words» < 2 ^ 32) × (height ≤ 2048) × (0 < column) × (column + 1 < 2 ^ 32) ⌝ }
-    ensures { λ r. ⌜ Ran (verifyBullseyeVertical «row_words» (length (now (words .entry))) height row column) (now (words .entry)) (now (marks .entry)) r (now (marks .exit)) ⌝ }
+    requires { ⌜ Image shape (now words) (now marks) × (0 < column) × (column + 1 < 2 ^ 32) ⌝ }
+    ensures { λ r. ⌜ Ran (verifyBullseyeVertical shape row column) (now (words .entry)) (now (marks .entry)) r (now (marks .exit)) ⌝ }
 {
-    let here = try_column(words, marks, row_words, height, row, column);
+    let here = try_column(words, marks, shape, row, column);
     if here.good {
         return here;
     }
-    let right = try_column(words, marks, row_words, height, row, column + 1);
+    let right = try_column(words, marks, shape, row, column + 1);
     if right.good {
         return right;
     }
-    try_column(words, marks, row_words, height, row, column - 1)
+    try_column(words, marks, shape, row, column - 1)
 }

@@ -4,13 +4,15 @@ use Prim.Native.Nat.{ℕ, zero, suc, _+_, _*_, _/_, _%_}
 use mathlib.Core.Bool.{Bool, not, cond}
 use mathlib.Core.List.{List, []}
 use lib.Dec.{ltb, eqb}
-use lib.Ieee.{Float, toUnsigned}
+use lib.Ieee.{toUnsigned}
 use lib.ListN.{getD}
 use Rattle.reads.specs.Reads.{Reads, done, _>>=_}
+use Rattle.bit_matrix.specs.declared.Shape.{Shape}
 use Rattle.bit_matrix.specs.Pixels.{ifSample}
 use Rattle.bit_matrix.specs.Area.{tryGetArea}
 use Rattle.bit_matrix.specs.declared.Sample.{Sample}
-use Rattle.sines.specs.Sines.{sineOf, cosineOf}
+use Rattle.sines.specs.Sines.{angleOf}
+use Rattle.sines.specs.declared.Angle.{Angle}
 use Rattle.rxing_result_point.specs.declared.PointU.{PointU}
 use Rattle.rxing_result_point.specs.Points.{turned}
 use Rattle.detector_degrees.specs.declared.Degree.{Degree}
@@ -37,27 +39,27 @@ abbrev pub ifRotation : {B : Type 0} → B → (ℕ → B) → Rotation → B
 ifRotation none some rotation.None = none
 ifRotation none some (rotation.Found degree) = some degree
 
-module _ (rowWords size width height : ℕ) (center : PointU) where
+module _ (shape : Shape) (center : PointU) where
   -- the area about the pixel in which a turned point lies
-  unfoldable pub lookAt : Float → Float → PointU → Reads Sample
-  lookAt sin cos point = let p = turned center point sin cos in tryGetArea rowWords size width height (toUnsigned 32 (p .x)) (toUnsigned 32 (p .y))
+  unfoldable pub lookAt : Angle → PointU → Reads Sample
+  lookAt angle point = let p = turned center point angle in tryGetArea shape (toUnsigned 32 (p .x)) (toUnsigned 32 (p .y))
 
   module _ (groups : List (List PointU)) where
-    -- n points from point k on, at the angle with this sine and cosine
-    unfoldable pub pointsFrom : Float → Float → ℕ → ℕ → Reads Degree
-    pointsFrom sin cos zero k = done Found
-    pointsFrom sin cos (suc n) k = do
-      sample ← lookAt sin cos (pointOf groups k)
-      ifSample (done Outside) (λ black. cond (rightColour k black) (pointsFrom sin cos n (k + 1)) (done WrongColour)) sample
+    -- n points from point k on, at an angle
+    unfoldable pub pointsFrom : Angle → ℕ → ℕ → Reads Degree
+    pointsFrom angle zero k = done Found
+    pointsFrom angle (suc n) k = do
+      sample ← lookAt angle (pointOf groups k)
+      ifSample (done Outside) (λ black. cond (rightColour k black) (pointsFrom angle n (k + 1)) (done WrongColour)) sample
 
-    unfoldable pub testDegree : Float → Float → Reads Degree
-    testDegree sin cos = pointsFrom sin cos 18 0
+    unfoldable pub testDegree : Angle → Reads Degree
+    testDegree angle = pointsFrom angle 18 0
 
     -- n degrees from degree 2 * i on
     unfoldable pub degreesFrom : ℕ → ℕ → Reads Rotation
     degreesFrom zero i = done rotation.None
     degreesFrom (suc n) i = do
-      tested ← testDegree (sineOf (i * 2)) (cosineOf (i * 2))
+      tested ← testDegree (angleOf (i * 2))
       ifDegree (done (rotation.Found (i * 2))) (degreesFrom n (i + 1)) (done rotation.None) tested
 
     unfoldable pub tryDegrees : Reads Rotation

@@ -6,10 +6,11 @@ use lib.Ieee.{ofBits, ofInt, add, sub, mul, toUnsigned}
 use Rattle.reads.specs.Reads.{_>>=_, value}
 use Rattle.reads.specs.Bits.{testBit, bitAt, range}
 use Rattle.reads.specs.Runs.{valueOf}
+use Rattle.bit_matrix.specs.Shape.{shapeOf}
 use Rattle.bit_matrix.specs.Pixels.{pixel, tryGet}
 use Rattle.bit_matrix.specs.Area.{countBlack, tryGetArea}
 use Rattle.ieee.specs.Sign.{abs}
-use Rattle.sines.specs.Sines.{sines, sineOf, cosineOf}
+use Rattle.sines.specs.Sines.{sines, sineOf, angleOf}
 use Rattle.rxing_result_point.specs.declared.PointU.{PointU}
 use Rattle.rxing_result_point.specs.Points.{turned}
 use Rattle.detector_degrees.specs.Degrees.{pointOf, rightColour, lookAt, pointsFrom, testDegree, degreesFrom, tryDegrees}
@@ -41,7 +42,7 @@ groupsOf b w = (b ∷ b ∷ b ∷ []) ∷ (w ∷ w ∷ w ∷ []) ∷ (b ∷ w �
 
 -- at degree 0
 abbrev testAt : List (List PointU) → Degree
-testAt groups = valueOf (testDegree 1 33 33 33 center groups (sineOf 0) (cosineOf 0)) words
+testAt groups = valueOf (testDegree (shapeOf 33 33) center groups (angleOf 0)) words
 
 -- each point has its colour, or the colours are exchanged; the first point that is wrong or outside decides
 pub near-test : (testAt (groupsOf black white) ≡ Found) × (testAt (groupsOf white black) ≡ WrongColour)
@@ -50,7 +51,7 @@ unfolding valueOf value _>>=_ testBit bitAt range flatMap pixel tryGet countBlac
 near-test = (refl, refl, refl, refl)
 
 abbrev tryAll : List (List PointU) → Rotation
-tryAll groups = valueOf (tryDegrees 1 33 33 33 center groups) words
+tryAll groups = valueOf (tryDegrees (shapeOf 33 33) center groups) words
 
 -- a point that lies in the square when it is turned by 12 degrees, and at no degree before; a point outside at degree 0
 pub near-turn : (tryAll (groupsOf (record { x = 8; y = 12 }) white) ≡ rotation.Found 12) × (tryAll (groupsOf outside white) ≡ rotation.None)

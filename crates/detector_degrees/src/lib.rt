@@ -1,10 +1,13 @@
 // The loop over degrees in `attempt_rotation_box` of detector.rs: eighteen points about the centre, turned degree by degree, until each has its colour.
 use bit_matrix::Sample;
+use bit_matrix::Shape;
+use rxing_result_point::Point;
 use rxing_result_point::PointU;
+use sines::Angle;
 ghost use mathlib.Core.Path.{_≡_};
-ghost use Prim.Native.Nat.{_^_, _≤_, _<_};
-ghost use lib.ListN.{length};
+ghost use Prim.Native.Nat.{_<_};
 ghost use Rattle.reads.specs.Runs.{Ran};
+ghost use Rattle.bit_matrix.specs.Shape.{Image};
 ghost use Rattle.sines.specs.Sines.{sines};
 ghost use Rattle.detector_degrees.specs.Degrees.{rightColour, tryDegrees};
 ghost use Rattle.detector_degrees.specs.Offsets.{coordinateOf, offsetPast, EachPoint, lookPast, testOffsets, tryOffsets};
@@ -62,62 +65,45 @@ fn offsets_past(center: f32, groups: [[PointU; 3]; 6], row: bool) -> [f32; 18]
     offsets
 }
 
-// The colour about the point that lies u columns and v rows past the centre, turned about it. The operations are those of `get_point`, in its order.
+// The colour about the point that lies `offset` past the centre, turned about it. The operations are those of `get_point`, in its order.
 fn look(
     words: &[u64],
     marks: &mut [u64],
-    row_words: usize,
-    width: u32,
-    height: u32,
-    cx: f32,
-    cy: f32,
-    sin: f32,
-    cos: f32,
-    u: f32,
-    v: f32,
+    shape: Shape,
+    center: Point,
+    angle: Angle,
+    offset: Point,
 ) -> Sample
-    requires { ⌜ (length (now marks) ≡ length (now words)) × («row_words» < 2 ^ 32) × (width ≤ 2048) × (height ≤ 2048) ⌝ }
-    ensures { λ r. ⌜ Ran (lookPast «row_words» (length (now (words .entry))) width height cx cy sin cos u v) (now (words .entry)) (now (marks .entry)) r (now (marks .exit)) ⌝ }
+    requires { ⌜ Image shape (now words) (now marks) ⌝ }
+    ensures { λ r. ⌜ Ran (lookPast shape center angle offset) (now (words .entry)) (now (marks .entry)) r (now (marks .exit)) ⌝ }
 {
-    let x = ieee::abs_f32_to_u32(cos * u - sin * v + cx);
-    let y = ieee::abs_f32_to_u32(sin * u + cos * v + cy);
-    bit_matrix::try_get_area(words, marks, row_words, width, height, x, y)
+    let sin = angle.sin;
+    let cos = angle.cos;
+    let u = offset.x;
+    let v = offset.y;
+    let x = ieee::abs_f32_to_u32(cos * u - sin * v + center.x);
+    let y = ieee::abs_f32_to_u32(sin * u + cos * v + center.y);
+    bit_matrix::try_get_area(words, marks, shape, x, y)
 }
 
 // All eighteen points have the right colour, or the first that has not, or is outside, ends it.
 fn test_degree(
     words: &[u64],
     marks: &mut [u64],
-    row_words: usize,
-    width: u32,
-    height: u32,
-    cx: f32,
-    cy: f32,
+    shape: Shape,
+    center: Point,
     columns: &[f32; 18],
     rows: &[f32; 18],
-    sin: f32,
-    cos: f32,
+    angle: Angle,
 ) -> Degree
-    requires { ⌜ (length (now marks) ≡ length (now words)) × («row_words» < 2 ^ 32) × (width ≤ 2048) × (height ≤ 2048) ⌝ }
-    ensures { λ r. ⌜ Ran (testOffsets «row_words» (length (now (words .entry))) width height cx cy (now (columns .entry)) (now (rows .entry)) sin cos) (now (words .entry)) (now (marks .entry)) r (now (marks .exit)) ⌝ }
+    requires { ⌜ Image shape (now words) (now marks) ⌝ }
+    ensures { λ r. ⌜ Ran (testOffsets shape center (now (columns .entry)) (now (rows .entry)) angle) (now (words .entry)) (now (marks .entry)) r (now (marks .exit)) ⌝ }
 {
     let mut k = 0usize;
     while k < 18 {
         let u = columns[k];
         let v = rows[k];
-        let sample = look(
-            words,
-            marks,
-            row_words,
-            width,
-            height,
-            cx,
-            cy,
-            sin,
-            cos,
-            u,
-            v,
-        );
+        let sample = look(words, marks, shape, center, angle, Point { x: u, y: v });
         match sample {
             Sample::Outside => {
                 return Degree::Outside;
@@ -137,36 +123,20 @@ fn test_degree(
 fn try_offsets(
     words: &[u64],
     marks: &mut [u64],
-    row_words: usize,
-    width: u32,
-    height: u32,
-    cx: f32,
-    cy: f32,
+    shape: Shape,
+    center: Point,
     columns: &[f32; 18],
     rows: &[f32; 18],
     table: &[f32; 360],
 ) -> Rotation
-    requires { ⌜ (length (now marks) ≡ length (now words)) × («row_words» < 2 ^ 32) × (width ≤ 2048) × (height ≤ 2048) ⌝ ∗ ⌜ now table ≡ sines ⌝ }
-    ensures { λ r. ⌜ Ran (tryOffsets «row_words» (length (now (words .entry))) width height cx cy (now (columns .entry)) (now (rows .entry))) (now (words .entry)) (now (marks .entry)) r (now (marks .exit)) ⌝ }
+    requires { ⌜ Image shape (now words) (now marks) × (now table ≡ sines) ⌝ }
+    ensures { λ r. ⌜ Ran (tryOffsets shape center (now (columns .entry)) (now (rows .entry))) (now (words .entry)) (now (marks .entry)) r (now (marks .exit)) ⌝ }
 {
     let mut i = 0u32;
     while i < 175 {
         let degree = i * 2;
-        let s = sines::sine(table, degree);
-        let c = sines::cosine(table, degree);
-        let tested = test_degree(
-            words,
-            marks,
-            row_words,
-            width,
-            height,
-            cx,
-            cy,
-            columns,
-            rows,
-            s,
-            c,
-        );
+        let angle = sines::angle_of(table, degree);
+        let tested = test_degree(words, marks, shape, center, columns, rows, angle);
         match tested {
             Degree::Found => {
                 return Rotation::Found(degree);
@@ -185,30 +155,18 @@ fn try_offsets(
 pub fn try_degrees(
     words: &[u64],
     marks: &mut [u64],
-    row_words: usize,
-    width: u32,
-    height: u32,
+    shape: Shape,
     center: PointU,
     groups: [[PointU; 3]; 6],
     table: &[f32; 360],
 ) -> Rotation
-    requires { ⌜ (length (now marks) ≡ length (now words)) × («row_words» < 2 ^ 32) × (width ≤ 2048) × (height ≤ 2048) ⌝ ∗ ⌜ now table ≡ sines ⌝ }
-    ensures { λ r. ⌜ Ran (tryDegrees «row_words» (length (now (words .entry))) width height center groups) (now (words .entry)) (now (marks .entry)) r (now (marks .exit)) ⌝ }
+    requires { ⌜ Image shape (now words) (now marks) × (now table ≡ sines) ⌝ }
+    ensures { λ r. ⌜ Ran (tryDegrees shape center groups) (now (words .entry)) (now (marks .entry)) r (now (marks .exit)) ⌝ }
 {
     let cx = std::num::nearest_u32_to_f32(center.x);
     let cy = std::num::nearest_u32_to_f32(center.y);
     let columns = offsets_past(cx, groups, false);
     let rows = offsets_past(cy, groups, true);
-    try_offsets(
-        words,
-        marks,
-        row_words,
-        width,
-        height,
-        cx,
-        cy,
-        &columns,
-        &rows,
-        table,
-    )
+    let middle = Point { x: cx, y: cy };
+    try_offsets(words, marks, shape, middle, &columns, &rows, table)
 }

@@ -4,7 +4,7 @@ use native.Mathlib.Omega.{arith}
 use mathlib.Core.Path.{_≡_, sym, ap, ap₂, _∙_}
 use mathlib.Core.List.{List, _++_, map, append-assoc}
 use lib.ListN.{length, take, drop, replicate}
-use Rattle.records.specs.Records.{Record, rows, flat, capacityOf, laidOut, Became, Each}
+use Rattle.records.specs.Records.{Record, rows, flat, laidOut, Became, Each}
 use Rattle.records.specs.RecordsLaws.{length-rows, take-flat, rows-front, drop-later, each-filter, each-map, each-both, rows-whole}
 use Rattle.detector_kept.specs.Spread.{spread}
 use Rattle.detector_kept.specs.Retain.{near, retain, Retained}
@@ -28,12 +28,9 @@ module _ {found : ℕ} {l₀ : List ℕ} (held : Candidates found l₀) {s : Spr
   }
 
   -- the capacity holds the candidates, and the buffer holds the capacity
-  module _ (capacity n : ℕ) (is : capacity ≡ capacityOf n) (sized : n ≡ length l₀) where
+  module _ (capacity : ℕ) (enough : found ≤ capacity) (room : 40 * capacity ≤ length l₀) where
     below : kept ≤ capacity
-    below = omega (arith, held .few, held .held, retained .few)
-
-    clears : 40 * kept + 40 * (capacity - kept) ≤ n
-    clears = omega (arith, held .few, held .held, retained .few)
+    below = omega (arith, retained .few)
 
     module _ (spreads : s ≡ spread (rows found l₀)) (l₂ : List ℕ) (varied : Became kept l₁ (map withVariance (rows kept l₁)) l₂)
         (l₃ : List ℕ) (sorted : Became kept l₂ (rank (rows kept l₂)) l₃) where
@@ -46,22 +43,21 @@ module _ {found : ℕ} {l₀ : List ℕ} (held : Candidates found l₀) {s : Spr
       rest-is : drop (40 * capacity) l₃ ≡ drop (40 * capacity) l₀
       rest-is =
           drop-later l₃ l₁ (40 * kept) (40 * capacity) (omega (arith, below)) (sorted .rest ∙ varied .rest)
-          ∙ drop-later l₁ l₀ (40 * found) (40 * capacity) (omega (arith, held .few, held .held)) (retained .rest)
+          ∙ drop-later l₁ l₀ (40 * found) (40 * capacity) (omega arith) (retained .rest)
 
       counts : kept ≡ length (ranked (rows found l₀))
       counts = sym (length-rows kept l₃) ∙ ap length records-are
 
-      pub composed : length l₃ ≡ n → (l₄ : List ℕ) → l₄ ≡ take (40 * kept) l₃ ++ replicate (40 * (capacity - kept)) 0 ++ drop (40 * kept + 40 * (capacity - kept)) l₃
-          → KeptAndRanked found l₀ kept l₄
+      pub composed : length l₃ ≡ length l₀ → (l₄ : List ℕ) → l₄ ≡ take (40 * kept) l₃ ++ replicate (40 * (capacity - kept)) 0 ++ drop (40 * kept + 40 * (capacity - kept)) l₃
+          → KeptAndRanked found capacity l₀ kept l₄
       unfolding laidOut
       composed sized₃ l₄ cleared = record {
         counted = counts;
         few = retained .few;
         written =
             let end : 40 * kept + 40 * (capacity - kept) ≡ 40 * capacity = omega (arith, below) in
-            let full : capacity ≡ capacityOf (length l₀) = is ∙ ap capacityOf sized in
             cleared
             ∙ ap₂ (λ (a b : List ℕ). a ++ replicate (40 * (capacity - kept)) 0 ++ b) (take-flat kept l₃ ∙ ap flat records-are) (ap (λ (m : ℕ). drop m l₃) end ∙ rest-is)
-            ∙ ap₂ (λ (c k : ℕ). flat (ranked (rows found l₀)) ++ replicate (40 * (c - k)) 0 ++ drop (40 * c) l₀) full counts;
-        records = ap (rows kept) (cleared ∙ append-assoc (take (40 * kept) l₃) _ _) ∙ rows-front kept l₃ _ (omega (arith, clears)) ∙ records-are;
+            ∙ ap (λ (k : ℕ). flat (ranked (rows found l₀)) ++ replicate (40 * (capacity - k)) 0 ++ drop (40 * capacity) l₀) counts;
+        records = ap (rows kept) (cleared ∙ append-assoc (take (40 * kept) l₃) _ _) ∙ rows-front kept l₃ _ (omega (arith, below)) ∙ records-are;
       }

@@ -26,11 +26,9 @@ within-above d m x h =
     let e : x - m ≡ (x - m) + (m - x) = omega arith in
     ap (λ (n : ℕ). leb n d) e
 
-module _ (s : Spread) (l : List ℕ) (i : ℕ) (b : Bool) (x-is : b ≡ within (s .«dev_x») (s .«mean_x») (getD l (40 * i) 0)) where
+module _ (s : Spread) (l : List ℕ) (i : ℕ) (b : Bool) (x-is : b ≡ within (s .«dev_x») (s .«mean_x») (getD l (40 * i + 0) 0)) where
   x-near : b ≡ within (s .«dev_x») (s .«mean_x») (getD (get l i) 0 0)
-  x-near =
-      x-is ∙ ap (λ (k : ℕ). within (s .«dev_x») (s .«mean_x») (getD l k 0)) (sym (add-zero (40 * i)))
-      ∙ ap (within (s .«dev_x») (s .«mean_x»)) (sym (get-word l i 0 (omega arith)))
+  x-near = x-is ∙ ap (within (s .«dev_x») (s .«mean_x»)) (sym (get-word l i 0 (omega arith)))
 
   pub near-both : (b′ : Bool) → b ≡ true → b′ ≡ within (s .«dev_y») (s .«mean_y») (getD l (40 * i + 1) 0) → b′ ≡ near s (get l i)
   unfolding near

@@ -5,10 +5,11 @@ use lib.IntN.{pos}
 use lib.ListN.{length, getD}
 use lib.Ieee.{Float, binary64, ofBits, ofInt, add, sub, mul, div, toUnsigned}
 use Rattle.ieee.specs.Sqrt.{sqrt}
+use Rattle.records.specs.Fields as field
 use Rattle.records.specs.Records.{Record}
 use Rattle.detector_kept.specs.declared.Spread.{Spread}
 
--- word k of each record: 0 is the centre's x, 1 its y
+-- one field of each record
 abbrev pub column : ℕ → List Record → List ℕ
 column k rs = map (λ (r : Record). getD r k 0) rs
 
@@ -42,8 +43,8 @@ deviation xs = sqrt binary64 (div binary64 (squares (mean xs) (ofBits binary64 0
 unfoldable pub spread : List Record → Spread
 unfolding mean deviation toUnsigned
 spread rs = record {
-  «dev_x» = toUnsigned 32 (deviation (column 0 rs));
-  «dev_y» = toUnsigned 32 (deviation (column 1 rs));
-  «mean_x» = toUnsigned 32 (mean (column 0 rs));
-  «mean_y» = toUnsigned 32 (mean (column 1 rs));
+  «dev_x» = toUnsigned 32 (deviation (column field.centerX rs));
+  «dev_y» = toUnsigned 32 (deviation (column field.centerY rs));
+  «mean_x» = toUnsigned 32 (mean (column field.centerX rs));
+  «mean_y» = toUnsigned 32 (mean (column field.centerY rs));
 }

@@ -23,29 +23,29 @@ struct Axis {
     mean: u32,
 }
 
-// The sum of a coordinate over the candidates: word 0 of a record is the centre's x, word 1 its y.
-fn total_of(words: &[u32], found: usize, axis: usize) -> u32
-    requires { ⌜ Candidates found (now words) ⌝ ∗ ⌜ axis < 40 ⌝ }
-    ensures { λ r. ⌜ r ≡ total (column axis (rows found (now (words .entry)))) ⌝ }
+// The sum of a coordinate of the centre over the candidates: `axis` is its place in a record.
+fn total_of(records: &[u32], found: usize, axis: usize) -> u32
+    requires { ⌜ Candidates found (now records) × (axis < 40) ⌝ }
+    ensures { λ r. ⌜ r ≡ total (column axis (rows found (now (records .entry)))) ⌝ }
 {
     let mut sum = 0u32;
     let mut i = 0usize;
     while i < found {
-        sum = sum + words[40 * i + axis];
+        sum = sum + records[40 * i + axis];
         i += 1;
     }
     sum
 }
 
 // The squares of the distances from the mean, added in the candidates' order.
-fn squares_of(words: &[u32], found: usize, axis: usize, mean: f64) -> f64
-    requires { ⌜ Candidates found (now words) ⌝ ∗ ⌜ axis < 40 ⌝ }
-    ensures { λ r. ⌜ r ≡ squares mean (Ieee.ofBits Ieee.binary64 0) (column axis (rows found (now (words .entry)))) ⌝ }
+fn squares_of(records: &[u32], found: usize, axis: usize, mean: f64) -> f64
+    requires { ⌜ Candidates found (now records) × (axis < 40) ⌝ }
+    ensures { λ r. ⌜ r ≡ squares mean (Ieee.ofBits Ieee.binary64 0) (column axis (rows found (now (records .entry)))) ⌝ }
 {
     let mut sum = 0.0f64;
     let mut i = 0usize;
     while i < found {
-        let off = (words[40 * i + axis] as f64) - mean;
+        let off = (records[40 * i + axis] as f64) - mean;
         sum = sum + off * off;
         i += 1;
     }
@@ -53,13 +53,13 @@ fn squares_of(words: &[u32], found: usize, axis: usize, mean: f64) -> f64
 }
 
 // The mean and the deviation of one coordinate.
-fn axis_of(words: &[u32], found: usize, axis: usize) -> Axis
-    requires { ⌜ Candidates found (now words) ⌝ ∗ ⌜ axis < 40 ⌝ }
-    ensures { λ r. ⌜ (r .dev ≡ Ieee.toUnsigned 32 (deviation (column axis (rows found (now (words .entry)))))) × (r .mean ≡ Ieee.toUnsigned 32 (mean (column axis (rows found (now (words .entry)))))) ⌝ }
+fn axis_of(records: &[u32], found: usize, axis: usize) -> Axis
+    requires { ⌜ Candidates found (now records) × (axis < 40) ⌝ }
+    ensures { λ r. ⌜ (r .dev ≡ Ieee.toUnsigned 32 (deviation (column axis (rows found (now (records .entry)))))) × (r .mean ≡ Ieee.toUnsigned 32 (mean (column axis (rows found (now (records .entry)))))) ⌝ }
 {
     let n = (found as u32) as f64;
-    let mean = (total_of(words, found, axis) as f64) / n;
-    let dev = ieee::sqrt_f64(squares_of(words, found, axis, mean) / n);
+    let mean = (total_of(records, found, axis) as f64) / n;
+    let dev = ieee::sqrt_f64(squares_of(records, found, axis, mean) / n);
     Axis {
         dev: ieee::saturating_f64_to_u32(dev),
         mean: ieee::saturating_f64_to_u32(mean),
@@ -67,12 +67,12 @@ fn axis_of(words: &[u32], found: usize, axis: usize) -> Axis
 }
 
 // `calculate_center_point_std_dev` of detector.rs.
-pub fn calculate_center_point_std_dev(words: &[u32], found: usize) -> Spread
-    requires { ⌜ Candidates found (now words) ⌝ }
-    ensures { λ r. ⌜ r ≡ spread (rows found (now (words .entry))) ⌝ }
+pub fn calculate_center_point_std_dev(records: &[u32], found: usize) -> Spread
+    requires { ⌜ Candidates found (now records) ⌝ }
+    ensures { λ r. ⌜ r ≡ spread (rows found (now (records .entry))) ⌝ }
 {
-    let x = axis_of(words, found, 0);
-    let y = axis_of(words, found, 1);
+    let x = axis_of(records, found, records::CENTER_X);
+    let y = axis_of(records, found, records::CENTER_Y);
     Spread {
         dev_x: x.dev,
         dev_y: y.dev,
@@ -93,29 +93,37 @@ fn is_within(dev: u32, mean: u32, x: u32) -> bool
 }
 
 // Both coordinates of record i's centre are near the mean.
-fn is_near(spread: Spread, words: &[u32], i: usize) -> bool
-    requires { ⌜ 40 * i + 40 ≤ length (now words) ⌝ }
-    ensures { λ r. ⌜ r ≡ near spread (get (now (words .entry)) i) ⌝ }
+fn is_near(spread: Spread, records: &[u32], i: usize) -> bool
+    requires { ⌜ 40 * i + 40 ≤ length (now records) ⌝ }
+    ensures { λ r. ⌜ r ≡ near spread (get (now (records .entry)) i) ⌝ }
 {
-    if is_within(spread.dev_x, spread.mean_x, words[40 * i]) {
-        is_within(spread.dev_y, spread.mean_y, words[40 * i + 1])
+    if is_within(
+        spread.dev_x,
+        spread.mean_x,
+        records[40 * i + records::CENTER_X],
+    ) {
+        is_within(
+            spread.dev_y,
+            spread.mean_y,
+            records[40 * i + records::CENTER_Y],
+        )
     } else {
         false
     }
 }
 
 // `detect`'s retain: the near records move to the front, in their order. Their number is returned.
-fn retain_near(words: &mut [u32], found: usize, spread: Spread) -> usize
-    requires { ⌜ 40 * found ≤ length (now words) ⌝ }
-    ensures { λ r. ⌜ Retained found spread (now (words .entry)) r (now (words .exit)) ⌝ }
+fn retain_near(records: &mut [u32], found: usize, spread: Spread) -> usize
+    requires { ⌜ 40 * found ≤ length (now records) ⌝ }
+    ensures { λ r. ⌜ Retained found spread (now (records .entry)) r (now (records .exit)) ⌝ }
 {
     let mut kept = 0usize;
     let mut i = 0usize;
     while i < found {
         let at = i;
         i += 1;
-        if is_near(spread, words, at) {
-            records::copy(words, at, kept);
+        if is_near(spread, records, at) {
+            records::copy(records, at, kept);
             kept += 1;
         }
     }
@@ -124,15 +132,14 @@ fn retain_near(words: &mut [u32], found: usize, spread: Spread) -> usize
 
 // What `detect` of detector.rs does with the sweep's candidates: those within the deviation are kept, with their
 // variance, and ranked by it. The other records become zeros, up to the capacity. The number kept is returned.
-pub fn keep_and_rank(words: &mut [u32], found: usize) -> usize
-    requires { ⌜ Candidates found (now words) ⌝ }
-    ensures { λ r. ⌜ KeptAndRanked found (now (words .entry)) r (now (words .exit)) ⌝ }
+pub fn keep_and_rank(records: &mut [u32], found: usize, capacity: usize) -> usize
+    requires { ⌜ Candidates found (now records) × (found ≤ capacity) × (40 * capacity ≤ length (now records)) ⌝ }
+    ensures { λ r. ⌜ KeptAndRanked found capacity (now (records .entry)) r (now (records .exit)) ⌝ }
 {
-    let spread = calculate_center_point_std_dev(words, found);
-    let kept = retain_near(words, found, spread);
-    detector_rank::set_variances(words, kept);
-    detector_rank::rank_records(words, kept);
-    let capacity = records::capacity_of(words.len());
-    records::clear(words, 40 * kept, 40 * (capacity - kept));
+    let spread = calculate_center_point_std_dev(records, found);
+    let kept = retain_near(records, found, spread);
+    detector_rank::set_variances(records, kept);
+    detector_rank::rank_records(records, kept);
+    records::clear(records, 40 * kept, 40 * (capacity - kept));
     kept
 }

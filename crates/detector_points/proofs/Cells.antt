@@ -9,7 +9,7 @@ use lib.Ieee.Fits.{and-l, and-r}
 use lib.ListN.{length, getD}
 use Rattle.rxing_result_point.specs.declared.PointU.{PointU}
 use Rattle.detector_boundary.specs.declared.Boundary.{Boundary}
-use Rattle.detector_boundary.specs.Within.{Placed}
+use Rattle.detector_boundary.specs.InImage.{Placed}
 use Rattle.detector_points.specs.Orientation.{point, isCell, areCells, adjustedPoint, adjustedPoints}
 
 module _ (p : PointU) (b : Boundary) (cell : T (isCell p)) (placed : Placed b) where

@@ -5,7 +5,7 @@ use rxing_result_point::PointU;
 ghost use mathlib.Core.Path.{_≡_};
 ghost use Prim.Native.Nat.{min};
 ghost use lib.Dec.{T};
-ghost use Rattle.detector_boundary.specs.Within.{Placed};
+ghost use Rattle.detector_boundary.specs.InImage.{Placed};
 ghost use Rattle.detector_points.specs.Orientation.{isCell, areCells, adjustedPoint, adjustedPoints, orientationPoints};
 
 // The symbol's columns and rows, of maxi_code_reader.rs.
@@ -22,7 +22,7 @@ fn least(a: u32, b: u32) -> u32
 
 // A cell as a pixel. The row is capped after the bottom is added, the column before the left is, as the source has it.
 pub fn adjust_point_alternate(point: PointU, boundary: Boundary) -> PointU
-    requires { ⌜ T (isCell point) ⌝ ∗ ⌜ Placed boundary ⌝ }
+    requires { ⌜ T (isCell point) × Placed boundary ⌝ }
     ensures { λ r. ⌜ r ≡ adjustedPoint boundary point ⌝ }
 {
     let height = boundary.top - boundary.bottom;
@@ -42,7 +42,7 @@ pub fn adjust_point_alternate(point: PointU, boundary: Boundary) -> PointU
 }
 
 pub fn get_adjusted_points(origin: [PointU; 3], boundary: Boundary) -> [PointU; 3]
-    requires { ⌜ T (areCells origin) ⌝ ∗ ⌜ Placed boundary ⌝ }
+    requires { ⌜ T (areCells origin) × Placed boundary ⌝ }
     ensures { λ r. ⌜ r ≡ adjustedPoints boundary origin ⌝ }
 {
     [

@@ -1,7 +1,7 @@
 -- The laws by which the sweep goes from change to change. Assumes nothing.
-use Prim.Native.Nat.{ℕ, zero, suc, _+_, _-_, _*_, _%_, _^_, _≤_, _<_, min}
+use Prim.Native.Nat.{ℕ, zero, suc, _+_, _-_, _*_, _%_, _≤_, _<_, min}
 use native.Mathlib.Decide.{decLt}
-use native.Mathlib.Nat.{add-zero, mul-le-mul}
+use native.Mathlib.Nat.{add-zero}
 use native.Mathlib.Omega.{arith}
 use mathlib.Core.Bool.{Bool, true, false, not, cond, _&&_, Bool·beq, false≢true}
 use mathlib.Core.Path.{_≡_, refl, sym, ap, _∙_}
@@ -13,6 +13,8 @@ use Rattle.reads.specs.Reads.{Reads, done}
 use Rattle.reads.specs.Bits.{mark, markAll, range}
 use Rattle.reads.specs.Runs.{Resumes}
 use Rattle.reads.specs.RunsLaws.{resumes-step, resumes-then, resumes-else, resumes-through}
+use Rattle.bit_matrix.specs.declared.Shape.{Shape}
+use Rattle.bit_matrix.specs.Shape.{size}
 use Rattle.bit_matrix.specs.PixelsLaws.{ran-pixel}
 use Rattle.bit_runs.specs.BitRuns.{rowBit}
 use Rattle.detector_widths.specs.Buckets.{bump}
@@ -22,12 +24,6 @@ use Rattle.detector_rows.specs.RowsLaws.{Counted, counted-same, counted-
 use Rattle.detector_rows.specs.Ring.{bucketsOf, colour, closing}
 use Rattle.detector_rows.specs.declared.Bullseye.{Bullseye}
 use Rattle.detector_rows.proofs.RingLaws.{bump-run, colour-next, started, early, late}
-
--- the first word of a row fits, with a row's words after it
-pub row-fits : (row rowWords : ℕ) → row < 2 ^ 32 → rowWords < 2 ^ 32 → row * rowWords + 2 ^ 26 < 2 ^ 64
-row-fits row rowWords low small =
-    let product : row * rowWords ≤ (2 ^ 32 - 1) * (2 ^ 32 - 1) = mul-le-mul {n₂ = 2 ^ 32 - 1} {m₂ = 2 ^ 32 - 1} (omega arith) (omega arith) in
-    omega arith
 
 beq-same : (b : Bool) → Bool·beq b b ≡ true
 beq-same true = refl
@@ -65,42 +61,44 @@ closing-full ring k e shut = go (decLt k 10)
 
 -- ---- a sweep at a column, in run k
 
-module _ (words : List ℕ) (rowWords row limit : ℕ) where
+module _ (shape : Shape) (row limit : ℕ) where
   abbrev pub sweepAt : List ℕ → ℕ → ℕ → Reads Bullseye
-  sweepAt ring k column = windowFrom rowWords (length words) row (limit - column) column (colour k) (min k 10) (bucketsOf ring k column)
+  sweepAt ring k column = windowFrom shape row (limit - column) column (colour k) (min k 10) (bucketsOf ring k column)
 
+module _ {words : List ℕ} (shape : Shape) (row limit : ℕ) (stored : length words ≡ size shape) where
   module _ {before : List ℕ} {whole : Reads Bullseye} (ring : List ℕ) (k : ℕ) where
     module _ (x e : ℕ) (start : getD ring (k % 16) 0 ≤ x) (after : x ≤ e) (within : e ≤ limit)
-        (same : (j : ℕ) → x ≤ j → j < e → rowBit words (row * rowWords) j ≡ colour k) where
+        (same : (j : ℕ) → x ≤ j → j < e → rowBit words (row * shape .«row_words») j ≡ colour k) where
       onward : (i : ℕ) (m : List ℕ) → i < e - x → length m ≡ length words
-          → Resumes words (sweepAt ring k (x + i)) m whole before
-          → Resumes words (sweepAt ring k (x + (i + 1))) (mark m (row * rowWords * 64 + x + i)) whole before
+          → Resumes words (sweepAt shape row limit ring k (x + i)) m whole before
+          → Resumes words (sweepAt shape row limit ring k (x + (i + 1))) (mark m (row * shape .«row_words» * 64 + x + i)) whole before
       unfolding windowBy
       onward i m h long rest =
           let some : limit - (x + i) ≡ suc (limit - (x + i + 1)) = omega arith in
           let next : x + i + 1 ≡ x + (i + 1) = omega arith in
-          let index : row * rowWords * 64 + (x + i) ≡ row * rowWords * 64 + x + i = omega arith in
-          let alike : Bool·beq (rowBit words (row * rowWords) (x + i)) (colour k) ≡ true =
+          let index : row * shape .«row_words» * 64 + (x + i) ≡ row * shape .«row_words» * 64 + x + i = omega arith in
+          let alike : Bool·beq (rowBit words (row * shape .«row_words») (x + i)) (colour k) ≡ true =
           ap (λ (b : Bool). Bool·beq b (colour k)) (same (x + i) (omega arith) (omega arith)) ∙ beq-same (colour k) in
           let counted : bump (bucketsOf ring k (x + i)) (min k 10) ≡ bucketsOf ring k (x + i + 1) = bump-run ring k (x + i) (omega arith) in
-          rw (← next, ← index, ← counted) (resumes-then _ _ alike (resumes-step _ (ran-pixel words m rowWords (x + i) row long) (rw some at rest)))
+          rw (← next, ← index, ← counted) (resumes-then _ _ alike (resumes-step _ (ran-pixel words m shape (x + i) row stored long) (rw some at rest)))
 
       -- the pixels from x up to e are of the present run's colour: they are read and counted
-      pub resumes-run : {marks : List ℕ} → length marks ≡ length words → Resumes words (sweepAt ring k x) marks whole before
-          → Resumes words (sweepAt ring k e) (markAll marks (range (row * rowWords * 64 + x) (e - x))) whole before
+      pub resumes-run : {marks : List ℕ} → length marks ≡ length words → Resumes words (sweepAt shape row limit ring k x) marks whole before
+          → Resumes words (sweepAt shape row limit ring k e) (markAll marks (range (row * shape .«row_words» * 64 + x) (e - x))) whole before
       resumes-run {marks} sized rest =
           let there : x + (e - x) ≡ e = omega arith in
-          let starts : Resumes words (sweepAt ring k (x + 0)) marks whole before = rw add-zero rest in
-          rw there at (resumes-through (λ (i : ℕ). sweepAt ring k (x + i)) (row * rowWords * 64 + x) (e - x) onward sized starts)
+          let starts : Resumes words (sweepAt shape row limit ring k (x + 0)) marks whole before = rw add-zero rest in
+          rw there at (resumes-through (λ (i : ℕ). sweepAt shape row limit ring k (x + i)) (row * shape .«row_words» * 64 + x) (e - x) onward sized starts)
 
-    module _ (e : ℕ) {m : List ℕ} (inside : e < limit) (turned : rowBit words (row * rowWords) e ≡ not (colour k)) (long : length m ≡ length words)
-        (rest : Resumes words (sweepAt ring k e) m whole before) where
+    module _ (e : ℕ) {m : List ℕ} (inside : e < limit) (turned : rowBit words (row * shape .«row_words») e ≡ not (colour k))
+        (long : length m ≡ length words)
+        (rest : Resumes words (sweepAt shape row limit ring k e) m whole before) where
       -- what is left after the pixel at e, of the other colour
       abbrev Left : Reads Bullseye → Type 0
-      Left p = Resumes words p (mark m (row * rowWords * 64 + e)) whole before
+      Left p = Resumes words p (mark m (row * shape .«row_words» * 64 + e)) whole before
 
       abbrev next : Bool → ℕ → List ℕ → Reads Bullseye
-      next last pointer buckets = windowFrom rowWords (length words) row (limit - (e + 1)) (e + 1) last pointer buckets
+      next last pointer buckets = windowFrom shape row (limit - (e + 1)) (e + 1) last pointer buckets
 
       read-on : Left (cond (ltb (min k 10) 10)
           (next (not (colour k)) (min k 10 + 1) (bump (bucketsOf ring k e) (min k 10 + 1)))
@@ -110,9 +108,9 @@ module _ (words : List ℕ) (rowWords row limit : ℕ) where
       unfolding windowBy
       read-on =
           let some : limit - e ≡ suc (limit - (e + 1)) = omega arith in
-          let apart : Bool·beq (rowBit words (row * rowWords) e) (colour k) ≡ false =
+          let apart : Bool·beq (rowBit words (row * shape .«row_words») e) (colour k) ≡ false =
           ap (λ (b : Bool). Bool·beq b (colour k)) turned ∙ beq-other (colour k) in
-          rw turned at (resumes-else _ _ apart (resumes-step _ (ran-pixel words m rowWords e row long) (rw some at rest)))
+          rw turned at (resumes-else _ _ apart (resumes-step _ (ran-pixel words m shape e row stored long) (rw some at rest)))
 
       -- the window closes
       pub resumes-closed : closing ring k e ≡ true → Left (done (metadata (bucketsOf ring k e) e))
@@ -121,10 +119,10 @@ module _ (words : List ℕ) (rowWords row limit : ℕ) where
           resumes-then _ _ (closing-many ring k e full ∙ shut) (resumes-else _ _ (le-ltb (min k 10) 10 (omega arith)) read-on)
 
       -- or the next run begins
-      pub resumes-next : length ring ≡ 16 → closing ring k e ≡ false → Left (sweepAt (started ring k e) (k + 1) (e + 1))
+      pub resumes-next : length ring ≡ 16 → closing ring k e ≡ false → Left (sweepAt shape row limit (started ring k e) (k + 1) (e + 1))
       resumes-next size not-yet = go (decLt k 10)
         where
-          go : Dec (k < 10) → Left (sweepAt (started ring k e) (k + 1) (e + 1))
+          go : Dec (k < 10) → Left (sweepAt shape row limit (started ring k e) (k + 1) (e + 1))
           go (yes few) =
               let place : min k 10 + 1 ≡ min (k + 1) 10 = omega arith in
               rw (colour-next k, ← place, ← early ring k e size few) (resumes-then _ _ (lt-ltb (min k 10) 10 (omega arith)) read-on)

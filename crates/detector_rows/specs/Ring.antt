@@ -8,6 +8,7 @@ use lib.Dec.{leb, ltb, eqb}
 use lib.ListN.{length, getD, replicate}
 use Rattle.reads.specs.Bits.{range, markAll}
 use Rattle.reads.specs.Runs.{Ran}
+use Rattle.bit_matrix.specs.declared.Shape.{Shape}
 use Rattle.detector_widths.specs.Widths.{validWidths}
 use Rattle.detector_rows.specs.Rows.{windowFrom}
 use Rattle.detector_rows.specs.declared.Bullseye.{Bullseye}
@@ -42,8 +43,8 @@ abbrev pub readTo : ℕ → Bullseye → ℕ
 readTo limit eye = cond (eye .found) (eye .center + eye .radius + 1) limit
 
 -- what the sweep from `from` on finds; the columns from there to before `readTo` are what it reads
-pub record Swept (words : List ℕ) (rowWords row from limit : ℕ) (eye : Bullseye) : Type 0 where
-  pub within : readTo limit eye ≤ 2048
+pub record Swept (words : List ℕ) (shape : Shape) (row from limit : ℕ) (eye : Bullseye) : Type 0 where
+  pub within : readTo limit eye ≤ limit
   pub ran : (marks : List ℕ) → length marks ≡ length words
-      → Ran (windowFrom rowWords (length words) row (limit - from) from true 0 (replicate 11 0)) words marks eye
-      (markAll marks (range (row * rowWords * 64 + from) (readTo limit eye - from)))
+      → Ran (windowFrom shape row (limit - from) from true 0 (replicate 11 0)) words marks eye
+      (markAll marks (range (row * shape .«row_words» * 64 + from) (readTo limit eye - from)))

@@ -12,6 +12,7 @@ use lib.ListN.{length, getD, drop, replicate, length-set, length-drop, length-ap
 use lib.Seq.{getD-set-same, getD-set-other, getD-drop}
 use Rattle.reads.specs.Reads.{Reads, Always, Same}
 use Rattle.reads.specs.ReadsLaws.{always-done, always-bind, always-after, always-cond, same-refl, same-after, same-cond}
+use Rattle.bit_matrix.specs.declared.Shape.{Shape}
 use Rattle.detector_widths.specs.Buckets.{bump}
 use Rattle.detector_widths.specs.Widths.{evenTotal, oddTotal, evenRunsPass, validWidths, validWidthsF32}
 use Rattle.detector_widths.specs.SameWidths.{same-widths}
@@ -184,8 +185,8 @@ closed {column = column} {width} {buckets} counted pass before =
 abbrev pub Found : ℕ → ℕ → Bullseye → Type 0
 Found start width eye = eye .found ≡ true → Closed start width eye
 
-module _ (rowWords size row : ℕ) where
-  always-skip : (n column : ℕ) → Always (λ first. column ≤ first) (skipWhite rowWords size row n column)
+module _ (shape : Shape) (row : ℕ) where
+  always-skip : (n column : ℕ) → Always (λ first. column ≤ first) (skipWhite shape row n column)
   unfolding skipWhite
   always-skip zero column = always-after _ _ λ _. always-done (omega arith)
   always-skip (suc n) column =
@@ -197,7 +198,7 @@ module _ (rowWords size row : ℕ) where
 
   always-window : {start width : ℕ} (n column : ℕ) (last : Bool) (pointer : ℕ) (buckets : List ℕ)
       → n ≤ width - 6 - column → Counted start column pointer buckets
-      → Always (Found start width) (windowFrom rowWords size row n column last pointer buckets)
+      → Always (Found start width) (windowFrom shape row n column last pointer buckets)
   unfolding windowBy
   always-window zero column last pointer buckets h counted = always-done (λ e. absurd (false≢true e))
   always-window {start} {width} (suc n) column last pointer buckets h counted =
@@ -215,18 +216,18 @@ module _ (rowWords size row : ℕ) where
           closed (rw ten at counted) pass (omega arith)
 
 -- Whatever the image, a window found is closed after the start and before the limit.
-pub always-closed : (rowWords size width row start : ℕ) → Always (Found start width) (nextBullseye rowWords size width row start)
+pub always-closed : (shape : Shape) (row start : ℕ) → Always (Found start (shape .width)) (nextBullseye shape row start)
 unfolding nextBullseyeBy
-always-closed rowWords size width row start =
-    always-bind _ (always-skip rowWords size row (width - 6 - start) start)
-    λ first after. always-window rowWords size row (width - 6 - first) first true 0 (replicate 11 0) (omega arith) (counted-none after)
+always-closed shape row start =
+    always-bind _ (always-skip shape row (shape .width - 6 - start) start)
+    λ first after. always-window shape row (shape .width - 6 - first) first true 0 (replicate 11 0) (omega arith) (counted-none after)
 
 -- ---- with the source's test of the widths
 
-module _ (rowWords size row : ℕ) where
+module _ (shape : Shape) (row : ℕ) where
   same-window : {start width : ℕ} (n column : ℕ) (last : Bool) (pointer : ℕ) (buckets : List ℕ)
       → width ≤ 2 ^ 20 → n ≤ width - 6 - column → Counted start column pointer buckets
-      → Same (windowBy validWidthsF32 rowWords size row n column last pointer buckets) (windowFrom rowWords size row n column last pointer buckets)
+      → Same (windowBy validWidthsF32 shape row n column last pointer buckets) (windowFrom shape row n column last pointer buckets)
   unfolding windowBy
   same-window zero column last pointer buckets narrow h counted = same-refl
   same-window (suc n) column last pointer buckets narrow h counted =
@@ -240,9 +241,9 @@ module _ (rowWords size row : ℕ) where
       (λ _. same-window n (column + 1) black pointer (withoutFirst buckets) narrow (omega arith) (counted-without counted (ltb-false pointer 10 late))))))
 
 -- The search with the source's f32 test has the results and the reads of the search with the whole-number one.
-pub same-rows-f32 : (rowWords size width row start : ℕ) → width ≤ 2 ^ 20
-    → Same (nextBullseyeBy validWidthsF32 rowWords size width row start) (nextBullseye rowWords size width row start)
+pub same-rows-f32 : (shape : Shape) (row start : ℕ) → shape .width ≤ 2 ^ 20
+    → Same (nextBullseyeBy validWidthsF32 shape row start) (nextBullseye shape row start)
 unfolding nextBullseyeBy
-same-rows-f32 rowWords size width row start narrow =
+same-rows-f32 shape row start narrow =
     same-after _ _ same-refl λ first.
-    same-window rowWords size row {start = first} (width - 6 - first) first true 0 (replicate 11 0) narrow (omega arith) (counted-none (omega arith))
+    same-window shape row {start = first} (shape .width - 6 - first) first true 0 (replicate 11 0) narrow (omega arith) (counted-none (omega arith))

@@ -1,9 +1,11 @@
 // `find_next_bullseye_horizontal` of detector.rs, run by run. Where the colour changes is found by whole words, and what was read is marked by whole words,
 // once. The last eleven runs are kept by the columns where they start, in a ring of sixteen, so that nothing is shifted.
+use bit_matrix::Shape;
 ghost use mathlib.Core.Path.{_≡_};
 ghost use Prim.Native.Nat.{_+_, _-_, _*_, _%_, _^_, _≤_, _<_, min, max};
 ghost use lib.ListN.{length, getD};
 ghost use Rattle.reads.specs.Runs.{Ran};
+ghost use Rattle.bit_matrix.specs.Shape.{size, Limits, Image};
 ghost use Rattle.bit_runs.specs.BitRuns.{rowBit, FirstBlack};
 ghost use Rattle.detector_rows.specs.Rows.{total, metadata, none, nextBullseye};
 ghost use Rattle.detector_rows.specs.Ring.{bucketsOf, closing, readTo, Swept};
@@ -60,12 +62,20 @@ fn greatest(a: usize, b: usize) -> usize
     if a < b { b } else { a }
 }
 
-// The first black column from `start` on, or the last that is looked at, the limit.
-fn skip_white(words: &[u64], row_words: usize, row: u32, start: u32, limit: u32) -> u32
-    requires { ⌜ «row_words» < 2 ^ 32 ⌝ }
-    ensures { λ r. ⌜ FirstBlack (rowBit (now (words .entry)) (row * «row_words»)) start (max start limit) r ⌝ }
+// The first word of a row. A row's words after it fit too.
+fn first_word(shape: Shape, row: u32) -> usize
+    requires { ⌜ Limits shape ⌝ }
+    ensures { λ r. ⌜ (r ≡ row * shape .«row_words») × (r + 2 ^ 26 < 2 ^ 64) ⌝ }
 {
-    let first = (row as usize) * row_words;
+    (row as usize) * shape.row_words
+}
+
+// The first black column from `start` on, or the last that is looked at, the limit.
+fn skip_white(words: &[u64], shape: Shape, row: u32, start: u32, limit: u32) -> u32
+    requires { ⌜ Limits shape ⌝ }
+    ensures { λ r. ⌜ FirstBlack (rowBit (now (words .entry)) (row * shape .«row_words»)) start (max start limit) r ⌝ }
+{
+    let first = first_word(shape, row);
     let from = start as usize;
     let last = greatest(from, limit as usize);
     bit_runs::first_black(words, first, from, last) as u32
@@ -131,20 +141,19 @@ fn word_end(column: u32, limit: u32) -> u32
 }
 
 // The first window from column `from` on, past the white. Nothing is marked. `changes` has the changes of colour from `column` to before `stop`.
-fn sweep(words: &[u64], row_words: usize, row: u32, from: u32, limit: u32) -> Bullseye
-    requires { ⌜ («row_words» < 2 ^ 32) × (limit ≤ 2048) ⌝ }
-    ensures { λ r. ⌜ Swept (now (words .entry)) «row_words» row from limit r ⌝ }
+fn sweep(words: &[u64], shape: Shape, row: u32, from: u32, limit: u32) -> Bullseye
+    requires { ⌜ Limits shape × (length (now words) ≡ size shape) × (limit ≤ shape .width) ⌝ }
+    ensures { λ r. ⌜ Swept (now (words .entry)) shape row from limit r ⌝ }
 {
     if limit <= from {
         return no_bullseye();
     }
-    let first = (row as usize) * row_words;
     let mut ring = [0u32; 16];
     ring[0] = from;
     let mut k: usize = 0;
     let mut column = from;
     let mut stop = word_end(from, limit);
-    let mut changes = bit_runs::changes(words, first, from as usize, true);
+    let mut changes = bit_runs::changes(words, first_word(shape, row), from as usize, true);
     loop {
         let n = u64::trailing_zeros(changes);
         let end = column + n;
@@ -160,7 +169,7 @@ fn sweep(words: &[u64], row_words: usize, row: u32, from: u32, limit: u32) -> Bu
             if limit <= stop {
                 return no_bullseye();
             }
-            changes = bit_runs::changes(words, first, stop as usize, k % 2 == 0);
+            changes = bit_runs::changes(words, first_word(shape, row), stop as usize, k % 2 == 0);
             column = stop;
             stop = word_end(stop, limit);
         }
@@ -182,18 +191,17 @@ fn read_to(eye: Bullseye, limit: u32) -> usize
 pub fn find_next_bullseye_horizontal(
     words: &[u64],
     marks: &mut [u64],
-    row_words: usize,
-    width: u32,
+    shape: Shape,
     row: u32,
     start_column: u32,
 ) -> Bullseye
-    requires { ⌜ (length (now marks) ≡ length (now words)) × («row_words» < 2 ^ 32) × (6 ≤ width) × (width ≤ 2048) ⌝ }
-    ensures { λ r. ⌜ Ran (nextBullseye «row_words» (length (now (words .entry))) width row «start_column») (now (words .entry)) (now (marks .entry)) r (now (marks .exit)) ⌝ }
+    requires { ⌜ Image shape (now words) (now marks) ⌝ }
+    ensures { λ r. ⌜ Ran (nextBullseye shape row «start_column») (now (words .entry)) (now (marks .entry)) r (now (marks .exit)) ⌝ }
 {
-    let limit = width - 6;
-    let from = skip_white(words, row_words, row, start_column, limit);
-    let eye = sweep(words, row_words, row, from, limit);
+    let limit = shape.width - 6;
+    let from = skip_white(words, shape, row, start_column, limit);
+    let eye = sweep(words, shape, row, from, limit);
     let to = greatest((from as usize) + 1, read_to(eye, limit));
-    bit_runs::mark_range(marks, (row as usize) * row_words, start_column as usize, to);
+    bit_runs::mark_range(marks, first_word(shape, row), start_column as usize, to);
     eye
 }

@@ -1,7 +1,8 @@
--- Document 01, "Box, turn and class": an outcome's words in a record, and the class of a turn. Definitions only. Assumes nothing.
+-- Document 01, "Box, turn and class": an outcome's words in a record, and the class of a symbol. Definitions only. Assumes nothing.
 use Prim.Native.Nat.{ℕ, _+_, _/_, _%_}
 use lib.Ieee.{Float, binary32, toBits}
 use Rattle.detector_turn.specs.declared.Outcome.{Outcome}
+use Rattle.detector_turn.specs.declared.Turn.{Turn}
 use Rattle.detector_turn.specs.declared.Outcome.the-variants.{Turned, NoTurn, LostCentre}
 
 -- by cases on an outcome
@@ -18,6 +19,10 @@ outcomeNumber outcome = ifOutcome (λ rotation. 1) 0 2 outcome
 abbrev pub rotationBits : Outcome → ℕ
 rotationBits outcome = ifOutcome (toBits binary32) 0 0 outcome
 
--- the class of a turn: quarters of a full turn, to the nearest; the fourth is the zeroth
-unfoldable pub classOf : ℕ → ℕ
-classOf degree = (degree + 45) / 90 % 4
+-- a degree in quarters of a full turn, to the nearest; the fourth is the zeroth
+unfoldable pub quarterOf : ℕ → ℕ
+quarterOf degree = (degree + 45) / 90 % 4
+
+-- the class of a symbol: with a turn its quarter, without one or with a lost centre 0
+abbrev pub classOf : Turn → ℕ
+classOf turn = ifOutcome (λ rotation. quarterOf (turn .degree)) 0 0 (turn .outcome)

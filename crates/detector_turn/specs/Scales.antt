@@ -1,35 +1,30 @@
 -- The loop over `ACCEPTED_SCALES` in `box_symbol` of detector.rs. Each scale first replaces the centre by the corrected one; a corrected centre outside the
 -- image ends the loop, and so does the first scale with a rotation. Definitions only. Assumes nothing.
-use Prim.Native.Nat.{ℕ, zero, suc, _+_, _-_, _*_, _≤_, _<_}
+use Prim.Native.Nat.{ℕ, zero, suc, _+_, _-_, _≤_, _<_}
 use mathlib.Core.Bool.{Bool, cond, _||_}
 use mathlib.Core.List.{List, [], _∷_}
 use lib.Dec.{leb}
 use lib.Ieee.{Float, nan, binary64, ofBits}
 use lib.ListN.{getD}
 use Rattle.reads.specs.Reads.{Reads, done, _>>=_}
+use Rattle.bit_matrix.specs.declared.Shape.{Shape}
 use Rattle.rxing_result_point.specs.declared.PointU.{PointU}
 use Rattle.rxing_result_point.specs.Points.{real}
 use Rattle.detector_boundary.specs.Boundary.{scaledBoundary}
 use Rattle.detector_points.specs.Orientation.{orientationPoints}
-use Rattle.detector_center.specs.Center.{corrected}
+use Rattle.detector_walks.specs.Walks.{Lent}
+use Rattle.detector_circle.specs.declared.Circle.{Circle}
+use Rattle.detector_circle.specs.Circle.{correctedCircle}
 use Rattle.detector_degrees.specs.declared.Rotation.{Rotation}
 use Rattle.detector_degrees.specs.Degrees.{ifRotation, tryDegrees}
 use Rattle.detector_turn.specs.declared.Turn.{Turn}
 use Rattle.detector_turn.specs.declared.Outcome.the-variants.{Turned, NoTurn, LostCentre}
 
--- bounds that every accepted image meets: 33 to 2,048 columns and rows, at most 32 words in a row, and no more rows of words than 2,048
-pub record ImageBounds (size rowWords width height : ℕ) : Type 0 where
-  pub wide : 33 ≤ width
-  pub narrow : width ≤ 2048
-  pub high : 33 ≤ height
-  pub low : height ≤ 2048
-  pub row : rowWords ≤ 32
-  pub fit : size ≤ rowWords * 2048
-
--- a pixel of it
-pub record Inner (width height : ℕ) (p : PointU) : Type 0 where
-  pub column : p .x < width
-  pub line : p .y < height
+-- what the scales are lent: an image, a circle whose centre lies inside, and the table
+pub record LentCircle (shape : Shape) (words marks : List ℕ) (circle : Circle) (table : List Float) : Type 0 where
+  pub lent : Lent shape words marks (circle .center) table
+  pub least : 6 ≤ circle .radius
+  pub most : circle .radius < 2048
 
 -- `ACCEPTED_SCALES`: 0.065, 0.069, 0.07, 0.075 and 0.08
 abbrev pub acceptedScales : List Float
@@ -55,23 +50,23 @@ notTurned center = record { outcome = NoTurn; degree = 0; scale = 0; center = ce
 abbrev pub lostAt : ℕ → PointU → Turn
 lostAt scale center = record { outcome = LostCentre; degree = 0; scale = scale; center = center }
 
-unfoldable pub isOutside : ℕ → ℕ → PointU → Bool
-isOutside width height p = leb width (p .x) || leb height (p .y)
+unfoldable pub isOutside : Shape → PointU → Bool
+isOutside shape p = leb (shape .width) (p .x) || leb (shape .height) (p .y)
 
-module _ (rowWords size width height radius : ℕ) where
+module _ (shape : Shape) where
   -- `attempt_rotation_box` about the corrected centre: the degrees, with the points adjusted to the scale's boundary
-  unfoldable pub attemptRotationBox : PointU → Float → Reads Rotation
-  attemptRotationBox center scale =
-      tryDegrees rowWords size width height center (orientationPoints (scaledBoundary width height (center .x) (center .y) radius scale))
+  unfoldable pub attemptRotationBox : Circle → Float → Reads Rotation
+  attemptRotationBox circle scale =
+      tryDegrees shape (circle .center) (orientationPoints (scaledBoundary shape (circle .center) (circle .radius) scale))
 
-  -- n scales from this one on; the centre lies inside the image
-  unfoldable pub scalesFrom : ℕ → ℕ → PointU → Reads Turn
-  scalesFrom zero scale center = done (notTurned center)
-  scalesFrom (suc n) scale center = do
-    next ← corrected rowWords size center
-    cond (isOutside width height next) (done (lostAt scale center)) (do
+  -- n scales from this one on; the circle's centre lies inside the image
+  unfoldable pub scalesFrom : ℕ → ℕ → Circle → Reads Turn
+  scalesFrom zero scale circle = done (notTurned (circle .center))
+  scalesFrom (suc n) scale circle = do
+    next ← correctedCircle shape circle
+    cond (isOutside shape (next .center)) (done (lostAt scale (circle .center))) (do
       rotation ← attemptRotationBox next (acceptedScale scale)
-      ifRotation (scalesFrom n (scale + 1) next) (λ degree. done (turnedBy degree scale next)) rotation)
+      ifRotation (scalesFrom n (scale + 1) next) (λ degree. done (turnedBy degree scale (next .center))) rotation)
 
-  unfoldable pub tryScales : PointU → Reads Turn
-  tryScales center = scalesFrom 5 1 center
+  unfoldable pub tryScales : Circle → Reads Turn
+  tryScales circle = scalesFrom 5 1 circle

@@ -1,16 +1,16 @@
 // The loop over `ACCEPTED_SCALES` in `box_symbol` of detector.rs, and `attempt_rotation_box` for one of them. Each scale first replaces the centre by the
 // corrected one. Each stored bit that is read is marked.
+use bit_matrix::Shape;
+use detector_circle::Circle;
 use detector_degrees::Rotation;
 use rxing_result_point::PointU;
 ghost use mathlib.Core.Path.{_≡_};
-ghost use Prim.Native.Nat.{_+_, _≤_, _<_};
+ghost use Prim.Native.Nat.{_≤_, _<_};
 ghost use lib.Dec.{T};
-ghost use lib.ListN.{length};
 ghost use Rattle.reads.specs.Runs.{Ran};
-ghost use Rattle.sines.specs.Sines.{sines};
 ghost use Rattle.detector_boundary.specs.Size.{isScale};
-ghost use Rattle.detector_turn.specs.Outcomes.{outcomeNumber, rotationBits, classOf};
-ghost use Rattle.detector_turn.specs.Scales.{ImageBounds, Inner, acceptedScale, turnedBy, notTurned, lostAt, isOutside, attemptRotationBox, tryScales};
+ghost use Rattle.detector_turn.specs.Outcomes.{outcomeNumber, rotationBits, quarterOf, classOf};
+ghost use Rattle.detector_turn.specs.Scales.{LentCircle, acceptedScale, turnedBy, notTurned, lostAt, isOutside, attemptRotationBox, tryScales};
 
 // What the scales come to. With a turn its degrees, as f32.
 pub enum Outcome {
@@ -31,17 +31,17 @@ const ACCEPTED_SCALES: [f64; 5] = [0.065, 0.069, 0.07, 0.075, 0.08];
 
 // Scale 1 to 5.
 fn accepted_scale(scale: u32) -> f64
-    requires { ⌜ 1 ≤ scale ⌝ ∗ ⌜ scale < 6 ⌝ }
+    requires { ⌜ (1 ≤ scale) × (scale < 6) ⌝ }
     ensures { λ r. ⌜ r ≡ acceptedScale scale ⌝ }
 {
     ACCEPTED_SCALES[(scale - 1) as usize]
 }
 
 // Whether a point lies outside the image.
-fn is_outside(width: u32, height: u32, p: PointU) -> bool
-    ensures { λ r. ⌜ r ≡ isOutside width height p ⌝ }
+fn is_outside(shape: Shape, p: PointU) -> bool
+    ensures { λ r. ⌜ r ≡ isOutside shape p ⌝ }
 {
-    p.x >= width || p.y >= height
+    p.x >= shape.width || p.y >= shape.height
 }
 
 // What the scales find, in each of the three cases.
@@ -85,78 +85,47 @@ fn lost_at(scale: u32, center: PointU) -> Turn
 pub fn attempt_rotation_box(
     words: &[u64],
     marks: &mut [u64],
-    row_words: usize,
-    width: u32,
-    height: u32,
-    center: PointU,
-    radius: u32,
+    shape: Shape,
+    circle: Circle,
     scale: f64,
     table: &[f32; 360],
 ) -> Rotation
-    requires { ⌜ length (now marks) ≡ length (now words) ⌝ ∗ ⌜ ImageBounds (length (now words)) «row_words» width height ⌝ ∗ ⌜ Inner width height center ⌝ ∗ ⌜ (6 ≤ radius) × (radius < 2048) × T (isScale scale) ⌝ ∗ ⌜ now table ≡ sines ⌝ }
-    ensures { λ r. ⌜ Ran (attemptRotationBox «row_words» (length (now (words .entry))) width height radius center scale) (now (words .entry)) (now (marks .entry)) r (now (marks .exit)) ⌝ }
+    requires { ⌜ LentCircle shape (now words) (now marks) circle (now table) × T (isScale scale) ⌝ }
+    ensures { λ r. ⌜ Ran (attemptRotationBox shape circle scale) (now (words .entry)) (now (marks .entry)) r (now (marks .exit)) ⌝ }
 {
-    let boundary = detector_boundary::scaled_boundary(
-        width,
-        height,
-        center.x,
-        center.y,
-        radius,
-        scale,
-    );
+    let center = circle.center;
+    let boundary = detector_boundary::scaled_boundary(shape, center, circle.radius, scale);
     let points = detector_points::adjusted_orientation_points(boundary);
-    detector_degrees::try_degrees(
-        words,
-        marks,
-        row_words,
-        width,
-        height,
-        center,
-        points,
-        table,
-    )
+    detector_degrees::try_degrees(words, marks, shape, center, points, table)
 }
 
 // The scales in order. The corrected centre of one is where the next starts; one outside the image ends them.
 pub fn try_scales(
     words: &[u64],
     marks: &mut [u64],
-    row_words: usize,
-    width: u32,
-    height: u32,
-    center: PointU,
-    radius: u32,
+    shape: Shape,
+    circle: Circle,
     table: &[f32; 360],
 ) -> Turn
-    requires { ⌜ length (now marks) ≡ length (now words) ⌝ ∗ ⌜ ImageBounds (length (now words)) «row_words» width height ⌝ ∗ ⌜ Inner width height center ⌝ ∗ ⌜ (6 ≤ radius) × (radius < 2048) ⌝ ∗ ⌜ now table ≡ sines ⌝ }
-    ensures { λ r. ⌜ Ran (tryScales «row_words» (length (now (words .entry))) width height radius center) (now (words .entry)) (now (marks .entry)) r (now (marks .exit)) ⌝ }
+    requires { ⌜ LentCircle shape (now words) (now marks) circle (now table) ⌝ }
+    ensures { λ r. ⌜ Ran (tryScales shape circle) (now (words .entry)) (now (marks .entry)) r (now (marks .exit)) ⌝ }
 {
-    let mut last = center;
+    let mut last = circle;
     let mut scale = 1u32;
     while scale < 6 {
-        let next = detector_center::corrected_center(words, marks, row_words, last, table);
-        if is_outside(width, height, next) {
-            return lost_at(scale, last);
+        let next = detector_circle::with_corrected_center(last, words, marks, shape, table);
+        if is_outside(shape, next.center) {
+            return lost_at(scale, last.center);
         }
         let percent = accepted_scale(scale);
-        let rotation = attempt_rotation_box(
-            words,
-            marks,
-            row_words,
-            width,
-            height,
-            next,
-            radius,
-            percent,
-            table,
-        );
+        let rotation = attempt_rotation_box(words, marks, shape, next, percent, table);
         if let Rotation::Found(degree) = rotation {
-            return turned_by(degree, scale, next);
+            return turned_by(degree, scale, next.center);
         }
         last = next;
         scale += 1;
     }
-    not_turned(last)
+    not_turned(last.center)
 }
 
 // The number of an outcome in a record.
@@ -181,10 +150,23 @@ pub fn rotation_bits(outcome: Outcome) -> u32
     }
 }
 
-// The class of a turn: quarters of a full turn, to the nearest.
-pub fn class_of(degree: u32) -> u32
+// A degree in quarters of a full turn, to the nearest.
+pub fn quarter_of(degree: u32) -> u32
     requires { ⌜ degree < 360 ⌝ }
-    ensures { λ r. ⌜ r ≡ classOf degree ⌝ }
+    ensures { λ r. ⌜ r ≡ quarterOf degree ⌝ }
 {
     (degree + 45) / 90 % 4
+}
+
+// The class of a symbol: the quarter of its turn, and 0 without one.
+pub fn class_of(turn: Turn) -> u32
+    requires { ⌜ turn .degree < 360 ⌝ }
+    ensures { λ r. ⌜ r ≡ classOf turn ⌝ }
+{
+    let outcome = turn.outcome;
+    match outcome {
+        Outcome::Turned(_) => quarter_of(turn.degree),
+        Outcome::NoTurn => 0u32,
+        Outcome::LostCentre => 0u32,
+    }
 }

@@ -8,7 +8,7 @@ use native.Mathlib.Omega.{arith}
 use lib.Dec.{T, leb, eqb, leb→le, lit<, eqb·suc-zero}
 use lib.IntN.{ℤ, natAbs}
 use lib.Ieee.{Float, ofBits}
-use Rattle.sines.specs.Sines.{sineOf, cosineOf}
+use Rattle.sines.specs.Sines.{sineOf, angleOf}
 use Rattle.sines.specs.Rules.{scaled, scaledSine}
 use Rattle.sines.specs.Laws.{sine-mod, sine-rules}
 use Rattle.sines.specs.Every.{every, every-at}
@@ -46,7 +46,7 @@ steps-few degree =
     d : ℕ
     d = degree % 360
 
-pub slanted : (degree : ℕ) → Sloped degree → Slanted (sineOf degree) (cosineOf degree)
+pub slanted : (degree : ℕ) → Sloped degree → Slanted (angleOf degree)
 slanted degree h = record {
   turns = h;
   few = steps-few degree h;

@@ -2,12 +2,17 @@
 -- many steps to the right at most. Definitions only. Assumes nothing.
 use Prim.Native.Nat.{ℕ, zero, suc, _+_, _*_, _/_, _^_, _≤_, _<_}
 use mathlib.Core.Bool.{Bool, true, false, not, cond}
+use mathlib.Core.List.{List}
+use mathlib.Core.Path.{_≡_}
 use lib.IntN.{ℤ, natAbs}
 use lib.Ieee.{Float, toUnsigned}
 use lib.Ieee.Exact.{HasValue}
 use Rattle.reads.specs.Reads.{Reads, done, _>>=_}
+use Rattle.bit_matrix.specs.declared.Shape.{Shape}
+use Rattle.bit_matrix.specs.Shape.{Image, Inside}
 use Rattle.bit_matrix.specs.Pixels.{pixel, outOfRange}
-use Rattle.sines.specs.Sines.{sineOf, cosineOf}
+use Rattle.sines.specs.declared.Angle.{Angle}
+use Rattle.sines.specs.Sines.{sines, angleOf}
 use Rattle.sines.specs.Rules.{scaled, scaledSine, negative}
 use Rattle.rxing_result_point.specs.declared.Point.{Point}
 use Rattle.rxing_result_point.specs.declared.PointU.{PointU}
@@ -15,8 +20,8 @@ use Rattle.rxing_result_point.specs.Points.{turned}
 use Rattle.detector_walks.specs.declared.Ends.{Ends}
 
 -- the point that a walk is at in column x of the centre's row, turned
-abbrev pub walkPoint : PointU → Float → Float → ℕ → Point
-walkPoint center sin cos x = turned center (record { x = x; y = center .y }) sin cos
+abbrev pub walkPoint : PointU → Angle → ℕ → Point
+walkPoint center angle x = turned center (record { x = x; y = center .y }) angle
 
 -- the first column of a walk to the left, or to the right
 abbrev pub firstColumn : PointU → Bool → ℕ
@@ -34,37 +39,37 @@ stepsOf u = reachOf u * 2 ^ 29 / natAbs u + 1
 abbrev pub stepsRight : Float → ℕ
 stepsRight sin = stepsOf (scaled sin)
 
-module _ (rowWords size : ℕ) where
+module _ (shape : Shape) where
   -- the loops' test: in range and white
   unfoldable pub whitePixel : ℕ → ℕ → Reads Bool
-  whitePixel x y = cond (outOfRange rowWords size x y) (done false) (do
-    black ← pixel rowWords size x y
+  whitePixel x y = cond (outOfRange shape x y) (done false) (do
+    black ← pixel shape x y
     done (not black))
 
   abbrev pub whitePoint : Point → Reads Bool
   whitePoint p = whitePixel (toUnsigned 32 (p .x)) (toUnsigned 32 (p .y))
 
-  module _ (center : PointU) (sin cos : Float) where
+  module _ (center : PointU) (angle : Angle) where
     -- where the walk to the left from column x ends: at the first point that is out of range or black, or at column 0's, which is read too
     unfoldable pub leftFrom : ℕ → Reads Point
     leftFrom zero = do
-      white ← whitePoint (walkPoint center sin cos zero)
-      done (walkPoint center sin cos zero)
+      white ← whitePoint (walkPoint center angle zero)
+      done (walkPoint center angle zero)
     leftFrom (suc x) = do
-      white ← whitePoint (walkPoint center sin cos (suc x))
-      cond white (leftFrom x) (done (walkPoint center sin cos (suc x)))
+      white ← whitePoint (walkPoint center angle (suc x))
+      cond white (leftFrom x) (done (walkPoint center angle (suc x)))
 
     -- where the walk to the right from column x ends, within so many steps
     unfoldable pub rightFrom : ℕ → ℕ → Reads Point
-    rightFrom zero x = done (walkPoint center sin cos x)
+    rightFrom zero x = done (walkPoint center angle x)
     rightFrom (suc fuel) x = do
-      white ← whitePoint (walkPoint center sin cos x)
-      cond white (rightFrom fuel (x + 1)) (done (walkPoint center sin cos x))
+      white ← whitePoint (walkPoint center angle x)
+      cond white (rightFrom fuel (x + 1)) (done (walkPoint center angle x))
 
     -- the walk to the left (true), or to the right
     unfoldable pub walk : Bool → Reads Point
     walk true = leftFrom (firstColumn center true)
-    walk false = rightFrom (stepsRight sin) (firstColumn center false)
+    walk false = rightFrom (stepsRight (angle .sin)) (firstColumn center false)
 
     -- both walks
     unfoldable pub findEnds : Reads Ends
@@ -75,22 +80,21 @@ module _ (rowWords size : ℕ) where
 
   -- `find_width_at_degree`
   abbrev pub findWidthAtDegree : PointU → ℕ → Reads Ends
-  findWidthAtDegree center degree = findEnds center (sineOf degree) (cosineOf degree)
+  findWidthAtDegree center degree = findEnds center (angleOf degree)
 
--- an image of at most 32 words by 2,048 rows, and a centre with both coordinates below 2,048
-pub record CenterWithin (size rowWords : ℕ) (center : PointU) : Type 0 where
-  pub narrow : rowWords ≤ 32
-  pub fit : size ≤ rowWords * 2048
-  pub left : center .x < 2048
-  pub low : center .y < 2048
+-- what a step about a centre is lent: an image, a centre inside it, and the table of sines
+pub record Lent (shape : Shape) (words marks : List ℕ) (center : PointU) (table : List Float) : Type 0 where
+  pub image : Image shape words marks
+  pub inside : Inside shape (center .x) (center .y)
+  pub table-is : table ≡ sines
 
 -- a degree whose sine is not 0: there a walk to the right ends for certain
 abbrev pub Sloped : ℕ → Type 0
 Sloped degree = 0 < natAbs (scaledSine degree)
 
 -- what the proof of that asks of sine and cosine
-pub record Slanted (sin cos : Float) : Type 0 where
-  pub turns : 0 < natAbs (scaled sin)
-  pub few : stepsRight sin ≤ 2 ^ 18
-  pub sine : HasValue sin (negative (scaled sin)) (natAbs (scaled sin)) (2 ^ 29)
-  pub cosine : HasValue cos (negative (scaled cos)) (natAbs (scaled cos)) (2 ^ 29)
+pub record Slanted (angle : Angle) : Type 0 where
+  pub turns : 0 < natAbs (scaled (angle .sin))
+  pub few : stepsRight (angle .sin) ≤ 2 ^ 18
+  pub sine : HasValue (angle .sin) (negative (scaled (angle .sin))) (natAbs (scaled (angle .sin))) (2 ^ 29)
+  pub cosine : HasValue (angle .cos) (negative (scaled (angle .cos))) (natAbs (scaled (angle .cos))) (2 ^ 29)

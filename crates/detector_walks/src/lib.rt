@@ -1,14 +1,15 @@
 // `find_width_at_degree` of detector.rs: the walks from a centre to the left and to the right, column by column of the centre's row, each
 // point turned about the centre, until one is black or lies past the image's last word. Each stored bit that is read is marked.
 // The source's first result, the length of both walks, is left out: the corrected centre has no use for it.
+use bit_matrix::Shape;
 use rxing_result_point::Point;
 use rxing_result_point::PointU;
+use sines::Angle;
 ghost use mathlib.Core.Path.{_≡_};
-ghost use Prim.Native.Nat.{_^_, _≤_, _<_};
-ghost use lib.ListN.{length};
+ghost use Prim.Native.Nat.{_+_, _^_, _≤_, _<_};
 ghost use Rattle.reads.specs.Runs.{Ran};
-ghost use Rattle.sines.specs.Sines.{sines};
-ghost use Rattle.detector_walks.specs.Walks.{walkPoint, whitePixel, whitePoint, firstColumn, walk, findWidthAtDegree, CenterWithin, Slanted, Sloped};
+ghost use Rattle.bit_matrix.specs.Shape.{Image, Inside};
+ghost use Rattle.detector_walks.specs.Walks.{walkPoint, whitePixel, whitePoint, firstColumn, walk, findWidthAtDegree, Slanted, Sloped, Lent};
 
 // The points where the two walks at a degree end.
 pub struct Ends {
@@ -17,14 +18,14 @@ pub struct Ends {
 }
 
 // Whether a pixel lies in a word of the image and is white.
-fn is_white(words: &[u64], marks: &mut [u64], row_words: usize, x: u32, y: u32) -> bool
-    requires { ⌜ (length (now marks) ≡ length (now words)) × («row_words» < 2 ^ 32) ⌝ }
-    ensures { λ r. ⌜ Ran (whitePixel «row_words» (length (now (words .entry))) x y) (now (words .entry)) (now (marks .entry)) r (now (marks .exit)) ⌝ }
+fn is_white(words: &[u64], marks: &mut [u64], shape: Shape, x: u32, y: u32) -> bool
+    requires { ⌜ Image shape (now words) (now marks) ⌝ }
+    ensures { λ r. ⌜ Ran (whitePixel shape x y) (now (words .entry)) (now (marks .entry)) r (now (marks .exit)) ⌝ }
 {
-    if bit_matrix::check_in_bounds(words, row_words, x, y) {
+    if bit_matrix::check_in_bounds(words, shape, x, y) {
         return false;
     }
-    !bit_matrix::get(words, marks, row_words, x, y)
+    !bit_matrix::get(words, marks, shape, x, y)
 }
 
 // Whether the walk goes on from column x. The operations are those of `get_point`, in its order; written out, so that what the centre alone decides
@@ -32,82 +33,81 @@ fn is_white(words: &[u64], marks: &mut [u64], row_words: usize, x: u32, y: u32) 
 fn goes_on(
     words: &[u64],
     marks: &mut [u64],
-    row_words: usize,
+    shape: Shape,
     center: PointU,
-    sin: f32,
-    cos: f32,
+    angle: Angle,
     x: u32,
 ) -> bool
-    requires { ⌜ length (now marks) ≡ length (now words) ⌝ ∗ ⌜ CenterWithin (length (now words)) «row_words» center ⌝ ∗ ⌜ x ≤ 2 ^ 24 ⌝ }
-    ensures { λ r. ⌜ Ran (whitePoint «row_words» (length (now (words .entry))) (walkPoint center sin cos x)) (now (words .entry)) (now (marks .entry)) r (now (marks .exit)) ⌝ }
+    requires { ⌜ Image shape (now words) (now marks) × Inside shape (center .x) (center .y) × (x ≤ 2 ^ 24) ⌝ }
+    ensures { λ r. ⌜ Ran (whitePoint shape (walkPoint center angle x)) (now (words .entry)) (now (marks .entry)) r (now (marks .exit)) ⌝ }
 {
+    let sin = angle.sin;
+    let cos = angle.cos;
     let cx = center.x as f32;
     let cy = center.y as f32;
     let u = x as f32 - cx;
     let v = cy - cy;
     let column = ieee::abs_f32_to_u32(cos * u - sin * v + cx);
     let row = ieee::abs_f32_to_u32(sin * u + cos * v + cy);
-    is_white(words, marks, row_words, column, row)
+    is_white(words, marks, shape, column, row)
 }
 
 // The column where a walk starts: to the left the centre's own.
 fn first_column(center: PointU, left: bool) -> u32
-    requires { ⌜ center .x < 2048 ⌝ }
+    requires { ⌜ center .x + 1 < 2 ^ 32 ⌝ }
     ensures { λ r. ⌜ r ≡ firstColumn center left ⌝ }
 {
     if left { center.x } else { center.x + 1 }
 }
 
 // The point that a walk is at in column x.
-fn walk_point(center: PointU, sin: f32, cos: f32, x: u32) -> Point
-    ensures { λ r. ⌜ r ≡ walkPoint center sin cos x ⌝ }
+fn walk_point(center: PointU, angle: Angle, x: u32) -> Point
+    ensures { λ r. ⌜ r ≡ walkPoint center angle x ⌝ }
 {
     let y = center.y;
-    rxing_result_point::turn(center, PointU { x, y }, sin, cos)
+    rxing_result_point::turn(center, PointU { x, y }, angle)
 }
 
 // The point where a walk ends. To the left column 0 is looked at too, before the test that ends the walk there.
 fn walk(
     words: &[u64],
     marks: &mut [u64],
-    row_words: usize,
+    shape: Shape,
     center: PointU,
-    sin: f32,
-    cos: f32,
+    angle: Angle,
     left: bool,
 ) -> Point
-    requires { ⌜ length (now marks) ≡ length (now words) ⌝ ∗ ⌜ CenterWithin (length (now words)) «row_words» center ⌝ ∗ ⌜ Slanted sin cos ⌝ }
-    ensures { λ r. ⌜ Ran (walk «row_words» (length (now (words .entry))) center sin cos left) (now (words .entry)) (now (marks .entry)) r (now (marks .exit)) ⌝ }
+    requires { ⌜ Image shape (now words) (now marks) × Inside shape (center .x) (center .y) × Slanted angle ⌝ }
+    ensures { λ r. ⌜ Ran (walk shape center angle left) (now (words .entry)) (now (marks .entry)) r (now (marks .exit)) ⌝ }
 {
     let mut x = first_column(center, left);
-    while goes_on(words, marks, row_words, center, sin, cos, x) {
+    while goes_on(words, marks, shape, center, angle, x) {
         if left {
             if x == 0 {
-                return walk_point(center, sin, cos, x);
+                return walk_point(center, angle, x);
             }
             x -= 1;
         } else {
             x += 1;
         }
     }
-    walk_point(center, sin, cos, x)
+    walk_point(center, angle, x)
 }
 
 // Both walks. At a degree with a sine other than 0 the walk to the right ends for certain.
 pub fn find_width_at_degree(
     words: &[u64],
     marks: &mut [u64],
-    row_words: usize,
+    shape: Shape,
     center: PointU,
     table: &[f32; 360],
     degree: u32,
 ) -> Ends
-    requires { ⌜ length (now marks) ≡ length (now words) ⌝ ∗ ⌜ CenterWithin (length (now words)) «row_words» center ⌝ ∗ ⌜ now table ≡ sines ⌝ ∗ ⌜ Sloped degree ⌝ }
-    ensures { λ r. ⌜ Ran (findWidthAtDegree «row_words» (length (now (words .entry))) center degree) (now (words .entry)) (now (marks .entry)) r (now (marks .exit)) ⌝ }
+    requires { ⌜ Lent shape (now words) (now marks) center (now table) × Sloped degree ⌝ }
+    ensures { λ r. ⌜ Ran (findWidthAtDegree shape center degree) (now (words .entry)) (now (marks .entry)) r (now (marks .exit)) ⌝ }
 {
-    let sin = sines::sine(table, degree);
-    let cos = sines::cosine(table, degree);
-    let left = walk(words, marks, row_words, center, sin, cos, true);
-    let right = walk(words, marks, row_words, center, sin, cos, false);
+    let angle = sines::angle_of(table, degree);
+    let left = walk(words, marks, shape, center, angle, true);
+    let right = walk(words, marks, shape, center, angle, false);
     Ends { left, right }
 }

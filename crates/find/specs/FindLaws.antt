@@ -2,60 +2,63 @@
 use Prim.Native.Nat.{ℕ, _*_, _≤_, _<_}
 use native.Mathlib.Nat.{mul-assoc, mul-le-mul-right}
 use native.Mathlib.Omega.{arith}
-use mathlib.Core.Bool.{Bool, true, false}
+use mathlib.Core.Bool.{Bool, true, false, cond}
 use mathlib.Core.List.{List}
-use mathlib.Core.Path.{_≡_, refl, sym, ap, ap₂, _∙_}
+use mathlib.Core.Path.{_≡_, refl, sym, ap, _∙_}
 use borrow.Author.Tests.{eqb-true, ltb-true, ltb-false, eq-eqb, ne-eqb}
 use lib.Dec.{eqb, ltb}
 use lib.ListN.{length, take}
 use lib.Seq.{take-all}
-use Rattle.crop.specs.Crop.{rowBytes, rowWords, imageWords, fileWords, width, height, refusal, orElse, fileRefusal}
-use Rattle.crop.specs.CropLaws.{file-accepted}
+use Rattle.bit_matrix.specs.Shape.{rowWords, shapeOf, size}
+use Rattle.crop.specs.Crop.{rowBytes, fileShape, fileWords, width, height, orElse, unpackRoom, searchRoom, refusal, fileRefusal, fileKind, leastSide, Checks}
+use Rattle.crop.specs.CropLaws.{file-accepted, checked-shape, file-accepted-by}
+use Rattle.crop.specs.declared.Checked.{Checked}
 use Rattle.crop.specs.PrefixLaws.{refusal-prefix}
-use Rattle.detector.specs.Detector.{filed, refusedRun, fileRun}
+use Rattle.detector.specs.Detector.{filed, refusedRun, refusedOr, fileRun}
 use Rattle.find.specs.Find.{lentWords}
 
--- the two ways that the words to lend are worked out
-pub lent-none : (file : List ℕ) {r : ℕ} → r ≡ refusal file → (r ≡ 0 → ⊥) → 0 ≡ lentWords file
+-- the words of a file that was checked: no image has more than 8,000
+pub lent-by : {c : Checked} {n : ℕ} → n ≡ size (c .shape) → (file : List ℕ) → Checks file c → (n ≡ lentWords file) × (n ≤ 8000)
 unfolding lentWords
-lent-none file checked refused = rw (ne-eqb (refusal file) 0 λ e. refused (checked ∙ e)) refl
-
-pub lent-some : (file : List ℕ) {r w h n : ℕ} → r ≡ refusal file → r ≡ 0 → w ≡ width file → h ≡ height file → n ≡ imageWords w h
-    → (n ≡ lentWords file) × (n ≤ 8000)
-unfolding lentWords
-lent-some file {n = n} checked zero w-is h-is n-is =
-    let same : n ≡ fileWords file = n-is ∙ ap₂ imageWords w-is h-is in
-    let number : refusal file ≡ 0 = sym checked ∙ zero in
-    (rw (eq-eqb (refusal file) 0 number) same, omega (arith, file-accepted file number .within .words-most))
+lent-by {c} {n} is file checks = go (eqb (c .answer) 0) refl
+  where
+    go : (b : Bool) → eqb (c .answer) 0 ≡ b → (n ≡ lentWords file) × (n ≤ 8000)
+    go true e =
+        let zero : c .answer ≡ 0 = eqb-true _ _ e in
+        let same : n ≡ fileWords file = is ∙ ap size (checked-shape checks zero) in
+        (rw (eq-eqb (refusal file) 0 (sym (checks .answer) ∙ zero)) same, omega (arith, is, file-accepted-by checks zero .limits .words-most))
+    go false e =
+        let none : n ≡ 0 = is ∙ ap size (checks .shape ∙ ap (λ (b : Bool). cond b (fileShape file) (shapeOf 0 0)) e) in
+        (rw (← (checks .answer), e) none, omega arith)
 
 -- the lent words fit, and 400 records are buffer enough: no answer is 6
 pub never-six : (file : List ℕ) → fileRefusal file (lentWords file) (lentWords file) 16000 ≡ refusal file
-unfolding fileRefusal lentWords orElse
+unfolding fileRefusal lentWords orElse unpackRoom searchRoom
 never-six file = go (eqb (refusal file) 0) refl
   where
     go : (b : Bool) → eqb (refusal file) 0 ≡ b → fileRefusal file (lentWords file) (lentWords file) 16000 ≡ refusal file
     go true e = rw (e, eq-eqb (fileWords file) (fileWords file) refl) (sym (eqb-true _ _ e))
-    go false e = rw e refl
+    go false e = rw (e, e) refl
 
 -- ---- an input of more than 65,536 bytes is refused as its start is
 
 refused-long : (file : List ℕ) → 65536 < length file → refusal file ≡ 0 → ⊥
 refused-long file long number =
-    let ready = file-accepted file number in
+    let ready = file-accepted leastSide (omega arith) fileKind file number in
     let w : ℕ = width file in
     let h : ℕ = height file in
     omega (
       arith,
-      ready .size,
-      ready .within .words-most,
+      ready .long,
+      ready .limits .words-most,
       mul-le-mul-right {m = rowBytes w} {n = 8 * rowWords w} h (omega arith),
       mul-assoc 8 (rowWords w) h,
     )
 
 -- the run of a refused file
-refused-run : (file words records marks : List ℕ) (n : ℕ) → refusal file ≡ n → (n ≡ 0 → ⊥) → fileRun file words records marks ≡ filed words (refusedRun n records marks)
-unfolding fileRun fileRefusal orElse
-refused-run file words records marks n e refused = rw (e, ne-eqb n 0 refused, ne-eqb n 0 refused) refl
+refused-run : (file words records marks : List ℕ) (n : ℕ) → refusal file ≡ n → (n ≡ 0 → ⊥) → fileRun file words records marks ≡ filed words (refusedRun records marks n)
+unfolding fileRun fileRefusal orElse refusedOr
+refused-run file words records marks n e refused = rw (e, ne-eqb n 0 refused, ne-eqb n 0 refused, ne-eqb n 0 refused) refl
 
 -- so the program reads no more of it, and what it prints is that of the whole input
 pub start-is-enough : (input words records marks : List ℕ) → fileRun (take 65536 input) words records marks ≡ fileRun input words records marks
@@ -64,7 +67,7 @@ start-is-enough input words records marks = go (ltb 65536 (length input)) refl
     go : (b : Bool) → ltb 65536 (length input) ≡ b → fileRun (take 65536 input) words records marks ≡ fileRun input words records marks
     go true e =
         let long : 65536 < length input = ltb-true _ _ e in
-        let same : refusal (take 65536 input) ≡ refusal input = refusal-prefix input 65536 (omega arith) (omega arith) in
+        let same : refusal (take 65536 input) ≡ refusal input = refusal-prefix fileKind leastSide input 65536 (omega arith) (omega arith) in
         refused-run (take 65536 input) words records marks (refusal input) same (refused-long input long)
         ∙ sym (refused-run input words records marks (refusal input) refl (refused-long input long))
     go false e = ap (λ (file : List ℕ). fileRun file words records marks) (take-all 65536 input (ltb-false _ _ e))

@@ -1,20 +1,22 @@
 // Reads a crop on standard input, searches it with room for 400 records, and prints the line of the report and one for each kept record.
 ghost use mathlib.Core.Path.{_≡_};
-ghost use Prim.Native.Nat.{_≤_};
+ghost use mathlib.Core.List.{List};
+ghost use Prim.Native.Nat.{ℕ, _≤_};
 ghost use lib.ListN.{length};
+ghost use Rattle.bit_matrix.specs.Shape.{rowWords};
+ghost use Rattle.crop.specs.Crop.{Checks};
 ghost use Rattle.find.specs.Find.{lentWords};
+use crop::Checked;
 use detector::Report;
 use libc::STDIN_FILENO;
 use libc::STDOUT_FILENO;
 
-// The words to lend for a file: those of its image, or none where the file is refused.
-fn lent_words(file: &[u8]) -> usize
-    ensures { λ r. ⌜ (r ≡ lentWords (now (file .entry))) × (r ≤ 8000) ⌝ }
+// The words to lend for a file that was checked: those of its image, or none where the file is refused.
+fn lent_words(checked: Checked) -> usize
+    requires { ⌜ checked .shape .«row_words» ≡ rowWords (checked .shape .width) ⌝ }
+    ensures { λ r. ⌜ ((file : List ℕ) → Checks file checked → (r ≡ lentWords file) × (r ≤ 8000)) ⌝ }
 {
-    if crop::check(file) != 0 {
-        return 0;
-    }
-    crop::image_words(crop::width(file), crop::height(file))
+    crop::image_words(checked.shape)
 }
 
 fn print_report(report: Report) {
@@ -51,12 +53,14 @@ fn print_records(buffer: &[u32], kept: usize)
 fn main() {
     let mut input = io::large_buffer();
     let n = io::read_full(STDIN_FILENO, &mut input);
-    let size = lent_words(&input[..n]);
+    let checked = crop::check_file(&input[..n]);
+    let size = lent_words(checked);
     let mut words = [0u64; 8000];
     let mut marks = [0u64; 8000];
     let mut buffer = [0u32; 16000];
-    let report = detector::search_file(
+    let report = detector::search_checked(
         &input[..n],
+        checked,
         &mut words[..size],
         &mut buffer,
         &mut marks[..size],

@@ -17,7 +17,7 @@ use Rattle.ieee.specs.CorrectlyRounded.{RootOf, NearestRoot}
 use Rattle.ieee.proofs.Numbers.{Odd, le-or-lt}
 use Rattle.ieee.specs.IsqrtLaws.{IsRoot, isqrt-is}
 use Rattle.ieee.proofs.Rounded.{root-fits, doubled, round-doubled}
-use Rattle.ieee.proofs.Units.{positive-value, under, units-of-value, Shape, shape, units-injective}
+use Rattle.ieee.proofs.Units.{positive-value, under, units-of-value, UnitsForm, units-form, units-injective}
 use Rattle.ieee.proofs.Sqrt.{sqrt-positive}
 use Rattle.ieee.proofs.Halfway.{Kept, kept, spacing, Side}
 use Rattle.ieee.proofs.Range.{root-large, wide, Places, places, first-digits, no-overflow, root-small, far, all-digits, never-half-way}
@@ -105,15 +105,15 @@ sqrt-means f x fit plus = record {
     few : (a : ℕ) → a < 2 ^ prec f → a < 2 * 2 ^ (prec f - 1)
     few a t = subst (λ (c : ℕ). a < c) (all-digits (prec f) some) t
 
-    mine : Shape f (unitsOf f x)
-    mine = shape f x fit
+    mine : UnitsForm f (unitsOf f x)
+    mine = units-form f x fit
 
     no : Odd h * d * (Odd h * d) ≡ n → ⊥
     no e = never-half-way (2 ^ (prec f - 1)) (low f) k h (mine .digits) (mine .places) (unitsOf f x) (mine .is) (few (mine .digits) (mine .few)) first e
 
     apart : (y : Float) → T (fits f y) → (unitsOf f y ≤ h * (2 * d)) ⊎ ((h + 1) * (2 * d) ≤ unitsOf f y)
     apart y t =
-        let s = shape f y t in
+        let s = units-form f y t in
         subst (λ (v : ℕ). (v ≤ h * (2 * d)) ⊎ ((h + 1) * (2 * d) ≤ v)) (sym (s .is))
         (subst (λ (c : ℕ). (s .digits * 2 ^ s .places ≤ h * c) ⊎ ((h + 1) * c ≤ s .digits * 2 ^ s .places)) (pow-succ' 2 k)
         (spacing (2 ^ (prec f - 1)) (suc k) h (s .digits) (s .places) (few (s .digits) (s .few)) first))

@@ -62,17 +62,17 @@ exact-units f s m e t =
     let same : unitsOf f (fin s m e) ≡ m * 2 ^ (h .0) = units-of-value f (fin s m e) s (m * 2 ^ (h .0)) (refl, h .1) in
     (refl, h .1 ∙ ap (λ (x : ℕ). x * down e) (sym same))
 
-pub record Shape (f : Format) (n : ℕ) : Type 0 where
+pub record UnitsForm (f : Format) (n : ℕ) : Type 0 where
   pub digits : ℕ
   pub places : ℕ
   pub few : digits < 2 ^ prec f
   pub is : n ≡ digits * 2 ^ places
 
-pub shape : (f : Format) (x : Float) → T (fits f x) → Shape f (unitsOf f x)
+pub units-form : (f : Format) (x : Float) → T (fits f x) → UnitsForm f (unitsOf f x)
 unfolding unitsOf
-shape f nan t = record { digits = 0; places = 0; few = pow-pos (prec f); is = refl }
-shape f (inf s) t = record { digits = 0; places = 0; few = pow-pos (prec f); is = refl }
-shape f (fin s m e) t =
+units-form f nan t = record { digits = 0; places = 0; few = pow-pos (prec f); is = refl }
+units-form f (inf s) t = record { digits = 0; places = 0; few = pow-pos (prec f); is = refl }
+units-form f (fin s m e) t =
     let b = bounds f s m e t in
     let h = whole-units f m e b in
     record { digits = m; places = h .0; few = b .digits; is = units-of-value f (fin s m e) s (m * 2 ^ (h .0)) (refl, h .1) }

@@ -4,7 +4,8 @@ use lib.IntN.{pos}
 use lib.Ieee.{Float, binary32, add, sub, mul, ofInt, toUnsigned}
 use Rattle.ieee.specs.Sign.{abs}
 use Rattle.ieee.specs.Integral.{floor, roundTiesToAway}
-use Rattle.sines.specs.Sines.{sineOf, cosineOf}
+use Rattle.sines.specs.Sines.{angleOf}
+use Rattle.sines.specs.declared.Angle.{Angle}
 use Rattle.rxing_result_point.specs.declared.Point.{Point}
 use Rattle.rxing_result_point.specs.declared.PointU.{PointU}
 
@@ -16,9 +17,11 @@ real n = ofInt binary32 (pos n)
 abbrev pub past : ℕ → ℕ → Float
 past center n = sub binary32 (real n) (real center)
 
--- `original` turned about `center` by the angle with this sine and cosine, the sign of each coordinate cleared
-unfoldable pub turned : PointU → PointU → Float → Float → Point
-turned center original sin cos =
+-- `original` turned about `center` by an angle, the sign of each coordinate cleared
+unfoldable pub turned : PointU → PointU → Angle → Point
+turned center original angle =
+    let sin = angle .sin in
+    let cos = angle .cos in
     let u = past (center .x) (original .x) in
     let v = past (center .y) (original .y) in
     record {
@@ -28,7 +31,7 @@ turned center original sin cos =
 
 -- `get_point`: by whole degrees
 abbrev pub getPoint : PointU → PointU → ℕ → Point
-getPoint center original degree = turned center original (sineOf degree) (cosineOf degree)
+getPoint center original degree = turned center original (angleOf degree)
 
 -- a coordinate by `round`, `floor` and the cast: halves away from zero, a NaN to 0
 abbrev pub roundedTo : Float → ℕ

@@ -1,5 +1,6 @@
 // Points of rxing_result_point.rs, and a point turned about a centre (`get_point` of detector.rs), each operation rounded
 // once and in the source's order.
+use sines::Angle;
 ghost use mathlib.Core.Path.{_≡_};
 ghost use Rattle.sines.specs.Sines.{sines};
 ghost use Rattle.rxing_result_point.specs.Points.{turned, getPoint, rounded};
@@ -16,10 +17,12 @@ pub struct PointU {
     pub y: u32,
 }
 
-// `original` turned about `center` by the angle with this sine and cosine.
-pub fn turn(center: PointU, original: PointU, sin: f32, cos: f32) -> Point
-    ensures { λ r. ⌜ r ≡ turned center original sin cos ⌝ }
+// `original` turned about `center` by an angle.
+pub fn turn(center: PointU, original: PointU, angle: Angle) -> Point
+    ensures { λ r. ⌜ r ≡ turned center original angle ⌝ }
 {
+    let sin = angle.sin;
+    let cos = angle.cos;
     let cx = std::num::nearest_u32_to_f32(center.x);
     let cy = std::num::nearest_u32_to_f32(center.y);
     let u = std::num::nearest_u32_to_f32(original.x) - cx;
@@ -35,12 +38,7 @@ pub fn get_point(center: PointU, original: PointU, table: &[f32; 360], degree: u
     requires { ⌜ now table ≡ sines ⌝ }
     ensures { λ r. ⌜ r ≡ getPoint center original degree ⌝ }
 {
-    turn(
-        center,
-        original,
-        sines::sine(table, degree),
-        sines::cosine(table, degree),
-    )
+    turn(center, original, sines::angle_of(table, degree))
 }
 
 // The pixel of a point: Rust's `round`, and then the conversion to PointU.

@@ -4,6 +4,7 @@ use mathlib.Core.List.{List, map}
 use lib.ListN.{getD}
 use lib.Ieee.{Float, nan, binary32, ofBits}
 use Rattle.sines.specs.Table.{patterns}
+use Rattle.sines.specs.declared.Angle.{Angle}
 
 -- the table
 unfoldable pub sines : List Float
@@ -16,3 +17,6 @@ sineOf degree = getD sines (degree % 360) nan
 -- the cosine: the sine a quarter turn on
 abbrev pub cosineOf : ℕ → Float
 cosineOf degree = sineOf (degree + 90)
+
+abbrev pub angleOf : ℕ → Angle
+angleOf degree = record { sin = sineOf degree; cos = cosineOf degree }

@@ -1,7 +1,13 @@
 // The sines and cosines of the whole degrees, from a table that a caller makes once and lends: an array
 // constant is copied at each use.
 ghost use mathlib.Core.Path.{_≡_};
-ghost use Rattle.sines.specs.Sines.{sines, sineOf, cosineOf};
+ghost use Rattle.sines.specs.Sines.{sines, sineOf, cosineOf, angleOf};
+
+// An angle's sine and cosine.
+pub struct Angle {
+    pub sin: f32,
+    pub cos: f32,
+}
 
 // Rounded to f32, with no zero negative (tools/sines.py).
 const SINES: [f32; 360] = [
@@ -389,4 +395,14 @@ pub fn cosine(table: &[f32; 360], degree: u32) -> f32
     ensures { λ r. ⌜ r ≡ cosineOf degree ⌝ }
 {
     sine(table, degree % 360 + 90)
+}
+
+// The angle of a degree.
+pub fn angle_of(table: &[f32; 360], degree: u32) -> Angle
+    requires { ⌜ now table ≡ sines ⌝ }
+    ensures { λ r. ⌜ r ≡ angleOf degree ⌝ }
+{
+    let sin = sine(table, degree);
+    let cos = cosine(table, degree);
+    Angle { sin, cos }
 }

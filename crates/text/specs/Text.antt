@@ -10,6 +10,7 @@ use lib.Dec.{ltb}
 use lib.Ieee.{binary32, ofBits, toUnsigned}
 use lib.ListN.{length, getD, take, drop}
 use Rattle.io.specs.Digits.{digits}
+use Rattle.records.specs.Fields as field
 
 -- the codes of a text
 abbrev pub ascii : String → List ℕ
@@ -58,16 +59,17 @@ degreesOf bits = toUnsigned 32 (ofBits binary32 bits)
 
 -- the four corners of a record, x then y
 abbrev pub cornersOf : List ℕ → List ℕ
-cornersOf fields = take 8 (drop 31 fields)
+cornersOf fields = take 8 (drop field.corners fields)
 
 -- what the line of a record has in decimal: x, y, radius, outcome, scale, rotation and class
 abbrev pub decimalFields : List ℕ → List ℕ
 decimalFields fields =
-    getD fields 0 0 ∷ getD fields 1 0 ∷ getD fields 2 0 ∷ getD fields 26 0 ∷ getD fields 27 0 ∷ degreesOf (getD fields 28 0) ∷ getD fields 39 0 ∷ []
+    getD fields field.centerX 0 ∷ getD fields field.centerY 0 ∷ getD fields field.radius 0
+    ∷ getD fields field.outcome 0 ∷ getD fields field.scale 0 ∷ degreesOf (getD fields field.rotation 0) ∷ getD fields field.class 0 ∷ []
 
 -- and in hexadecimal: the variance and the corners
 abbrev pub hexFields : List ℕ → List ℕ
-hexFields fields = getD fields 25 0 ∷ cornersOf fields
+hexFields fields = getD fields field.variance 0 ∷ cornersOf fields
 
 unfoldable pub recordLine : List ℕ → List ℕ
 recordLine fields = parted (map decimalOf (decimalFields fields) ++ map hexOf (hexFields fields)) ++ ascii "\n"

@@ -101,7 +101,7 @@ fn put_corners(buf: &mut [u8], at: usize, fields: [u32; 40]) -> usize
     let mut next = at;
     let mut k = 0;
     while k < 8 {
-        next = put_next_hex(buf, next, fields[31 + k]);
+        next = put_next_hex(buf, next, fields[records::CORNERS + k]);
         k += 1;
     }
     next
@@ -112,16 +112,22 @@ pub fn put_record(buf: &mut [u8], at: usize, fields: [u32; 40]) -> usize
     requires { ⌜ at + 200 ≤ length (now buf) ⌝ }
     ensures { λ r. ⌜ Puts (recordLine fields) at (now (buf .entry)) r (now (buf .exit)) ⌝ }
 {
-    let after_circle = put_circle(buf, at, fields[0], fields[1], fields[2]);
+    let after_circle = put_circle(
+        buf,
+        at,
+        fields[records::CENTER_X],
+        fields[records::CENTER_Y],
+        fields[records::RADIUS],
+    );
     let after_turn = put_turn(
         buf,
         after_circle,
-        fields[26],
-        fields[27],
-        fields[28],
-        fields[39],
+        fields[records::OUTCOME],
+        fields[records::SCALE],
+        fields[records::ROTATION],
+        fields[records::CLASS],
     );
-    let after_variance = put_next_hex(buf, after_turn, fields[25]);
+    let after_variance = put_next_hex(buf, after_turn, fields[records::VARIANCE]);
     let after_corners = put_corners(buf, after_variance, fields);
     put(buf, after_corners, b"\n")
 }

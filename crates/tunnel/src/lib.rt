@@ -1,6 +1,7 @@
 // What the Rust host calls. A slice crosses as its pointer and its length, a report as a C struct of four u32.
 ghost use mathlib.Core.Path.{_≡_};
 ghost use Rattle.crop.specs.Crop.{refusal};
+ghost use Rattle.crop.specs.Unpack.{Unpacks};
 ghost use Rattle.detector.specs.Detector.{run, wordsRun, filed, fileRun};
 use detector::Report;
 
@@ -10,6 +11,14 @@ pub extern "C" fn maxicode_check(file: &[u8]) -> u32
     ensures { λ r. ⌜ r ≡ refusal (now (file .entry)) ⌝ }
 {
     crop::check(file)
+}
+
+// The words of a crop file into a lent buffer, which is written only when the answer is 0.
+#[no_mangle]
+pub extern "C" fn maxicode_unpack(file: &[u8], words: &mut [u64]) -> u32
+    ensures { λ r. ⌜ Unpacks (now (file .entry)) (now (words .entry)) r (now (words .exit)) ⌝ }
+{
+    crop::unpack(file, words)
 }
 
 // The search of an image in words.

@@ -9,6 +9,7 @@ use lib.Dec.{leb}
 use lib.ListN.{length}
 use Rattle.reads.specs.Runs.{Ran}
 use Rattle.reads.specs.RunsLaws.{ran-bind, ran-done}
+use Rattle.bit_matrix.specs.declared.Shape.{Shape}
 use Rattle.bit_matrix.specs.Area.{box, countBlack, tryGetArea}
 use Rattle.bit_matrix.proofs.AreaLaws.{length-box, ran-few}
 use Rattle.bit_matrix.specs.declared.Sample.the-variants.{Outside, Inside}
@@ -24,20 +25,20 @@ cells x y left from l f = mul-le-mul {n₂ = 3} {m₂ = 3} (omega arith) (omega 
 cells-fit : (x y left from : ℕ) → left ≡ x - 1 → from ≡ y - 1 → (x + 2 - left) * (y + 2 - from) < 2 ^ 32
 cells-fit x y left from l f = omega (arith, cells x y left from l f)
 
-module _ {words marks after : List ℕ} (rowWords width height x y left from : ℕ) {count : Count} (l : left ≡ x - 1) (f : from ≡ y - 1)
-    (ran : Ran (countBlack rowWords (length words) width height (box left (x + 2) from (y + 2)) 0) words marks count after) where
-  outside : count ≡ counts.Outside → Ran (tryGetArea rowWords (length words) width height x y) words marks Outside after
+module _ {words marks after : List ℕ} (shape : Shape) (x y left from : ℕ) {count : Count} (l : left ≡ x - 1) (f : from ≡ y - 1)
+    (ran : Ran (countBlack shape (box left (x + 2) from (y + 2)) 0) words marks count after) where
+  outside : count ≡ counts.Outside → Ran (tryGetArea shape x y) words marks Outside after
   unfolding tryGetArea
   outside e = ran-bind _ (rw (l, f, e) at ran) (ran-done _)
 
   inside : {n : ℕ} → count ≡ counts.Black n
-      → Ran (tryGetArea rowWords (length words) width height x y) words marks (Inside (leb ((x + 2 - left) * (y + 2 - from)) (2 * n))) after
+      → Ran (tryGetArea shape x y) words marks (Inside (leb ((x + 2 - left) * (y + 2 - from)) (2 * n))) after
   unfolding tryGetArea
   inside e = rw (l, f, ← length-box (x - 1) (x + 2) (y - 1) (y + 2)) (ran-bind _ (rw (l, f, e) at ran) (ran-done _))
 
   twice-fits : (n : ℕ) → count ≡ counts.Black n → 2 * n < 2 ^ 32
   twice-fits n e =
-      let few : n ≤ 0 + length (box left (x + 2) from (y + 2)) = (rw e at (ran-few rowWords (length words) width height _ 0 ran)) .few in
+      let few : n ≤ 0 + length (box left (x + 2) from (y + 2)) = (rw e at (ran-few shape _ 0 ran)) .few in
       omega (arith, few, length-box left (x + 2) from (y + 2), cells x y left from l f)
 
 predecessor-requires : tie.Need-predecessor-requires
@@ -61,8 +62,14 @@ enum-told c = search needs
 enum-known-count : tie.Need-enum-known-count
 enum-known-count c = search needs
 
-mul-t17 : tie.Need-mul-t17
-mul-t17 c = record { fits = search twice-fits }
+mul-t15 : tie.Need-mul-t15
+mul-t15 c = record { fits = search twice-fits }
+
+add-t16 : tie.Need-add-t16
+add-t16 c = search needs
+
+sub-t17 : tie.Need-sub-t17
+sub-t17 c = search needs
 
 add-t18 : tie.Need-add-t18
 add-t18 c = search needs
@@ -70,14 +77,8 @@ add-t18 c = search needs
 sub-t19 : tie.Need-sub-t19
 sub-t19 c = search needs
 
-add-t20 : tie.Need-add-t20
-add-t20 c = search needs
-
-sub-t21 : tie.Need-sub-t21
-sub-t21 c = search needs
-
-mul-t22 : tie.Need-mul-t22
-mul-t22 c = record { fits = search cells-fit }
+mul-t20 : tie.Need-mul-t20
+mul-t20 c = record { fits = search cells-fit }
 
 same-length : tie.Need-same-length
 same-length c = search needs
@@ -102,12 +103,12 @@ area-by-pixels-spec =
     count-box-requires
     enum-told
     enum-known-count
-    mul-t17
+    mul-t15
+    add-t16
+    sub-t17
     add-t18
     sub-t19
-    add-t20
-    sub-t21
-    mul-t22
+    mul-t20
     same-length
     returns
     same-length-2

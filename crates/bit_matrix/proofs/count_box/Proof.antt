@@ -9,6 +9,7 @@ use lib.ListN.{length}
 use Rattle.reads.specs.Bits.{range}
 use Rattle.reads.specs.Runs.{Ran, Resumes}
 use Rattle.reads.specs.RunsLaws.{ran-done, resumes-start, resumes-step, resumes-end}
+use Rattle.bit_matrix.specs.declared.Shape.{Shape}
 use Rattle.bit_matrix.specs.Area.{column, box, countBlack}
 use Rattle.bit_matrix.proofs.AreaLaws.{count-append, ran-few, length-column}
 use Rattle.bit_matrix.specs.declared.Count.{Count}
@@ -16,21 +17,21 @@ use Rattle.bit_matrix.specs.declared.Count.the-variants.{Outside, Black}
 use Rattle.bit_matrix.proofs.count_box.Statement.{statement}
 use Rattle.bit_matrix.proofs.count_box.Tie as tie
 
-record Counting (words marks₀ : List ℕ) (rowWords width height left right from to : ℕ) (marks : List ℕ) (black x : ℕ) : Type 0 where
+record Counting (words marks₀ : List ℕ) (shape : Shape) (left right from to : ℕ) (marks : List ℕ) (black x : ℕ) : Type 0 where
   sized : length marks ≡ length words
   begun : left ≤ x
   few : black ≤ 3 * (x - left)
   resumes : Resumes words
-      (countBlack rowWords (length words) width height (box x right from to) black) marks
-      (countBlack rowWords (length words) width height (box left right from to) 0) marks₀
+      (countBlack shape (box x right from to) black) marks
+      (countBlack shape (box left right from to) 0) marks₀
 
-begins : {words marks : List ℕ} {rowWords width height left right from to : ℕ} → length marks ≡ length words
-    → Counting words marks rowWords width height left right from to marks 0 left
+begins : {words marks : List ℕ} {shape : Shape} {left right from to : ℕ} → length marks ≡ length words
+    → Counting words marks shape left right from to marks 0 left
 begins same = record { sized = same; begun = omega arith; few = omega arith; resumes = resumes-start }
 
-module _ {words marks₀ marks : List ℕ} {rowWords width height left right from to black x : ℕ}
-    (counting : Counting words marks₀ rowWords width height left right from to marks black x) where
-  at-end : right ≤ x → Ran (countBlack rowWords (length words) width height (box left right from to) 0) words marks₀ (Black black) marks
+module _ {words marks₀ marks : List ℕ} {shape : Shape} {left right from to black x : ℕ}
+    (counting : Counting words marks₀ shape left right from to marks black x) where
+  at-end : right ≤ x → Ran (countBlack shape (box left right from to) 0) words marks₀ (Black black) marks
   unfolding range flatMap countBlack
   at-end h =
       let none : right - x ≡ 0 = omega arith in
@@ -40,24 +41,24 @@ module _ {words marks₀ marks : List ℕ} {rowWords width height left right fro
   room wide high h = omega (arith, counting .few, counting .begun)
 
   module _ (h : x < right) {count : Count} {after : List ℕ}
-      (ran : Ran (countBlack rowWords (length words) width height (column x from to) black) words marks count after) where
+      (ran : Ran (countBlack shape (column x from to) black) words marks count after) where
     left-to-do : right - x ≡ suc (right - (x + 1))
     left-to-do = omega arith
 
     -- the present column, and then the others
     next : Resumes words
-        (countBlack rowWords (length words) width height (column x from to ++ box (x + 1) right from to) black) marks
-        (countBlack rowWords (length words) width height (box left right from to) 0) marks₀
+        (countBlack shape (column x from to ++ box (x + 1) right from to) black) marks
+        (countBlack shape (box left right from to) 0) marks₀
     unfolding range flatMap
     next = rw left-to-do at (counting .resumes)
 
-    outside : count ≡ Outside → Ran (countBlack rowWords (length words) width height (box left right from to) 0) words marks₀ Outside after
+    outside : count ≡ Outside → Ran (countBlack shape (box left right from to) 0) words marks₀ Outside after
     outside e = resumes-end (ran-done _) (resumes-step _ (rw e at ran) (rw count-append at next))
 
     onward : {n : ℕ} → count ≡ Black n → to ≤ from + 3 → length after ≡ length marks
-        → Counting words marks₀ rowWords width height left right from to after n (x + 1)
+        → Counting words marks₀ shape left right from to after n (x + 1)
     onward {n} e high kept =
-        let most : n ≤ black + length (column x from to) = (rw e at (ran-few rowWords (length words) width height (column x from to) black ran)) .few in
+        let most : n ≤ black + length (column x from to) = (rw e at (ran-few shape (column x from to) black ran)) .few in
         record {
           sized = kept ∙ counting .sized;
           begun = omega (arith, counting .begun);
@@ -66,10 +67,10 @@ module _ {words marks₀ marks : List ℕ} {rowWords width height left right fro
         }
 
 abbrev Inv-loop : tie.InvT-loop
-Inv-loop words marks₀ row-words width height left right from to black₀ x₀ marks black x = Counting words marks₀ row-words width height left right from to marks black x
+Inv-loop words marks₀ shape left right from to black₀ x₀ marks black x = Counting words marks₀ shape left right from to marks black x
 
 abbrev μ-loop : tie.MeasureT-loop
-μ-loop words marks₀ row-words width height left right from to black₀ x₀ marks black x = right - x
+μ-loop words marks₀ shape left right from to black₀ x₀ marks black x = right - x
 
 loop-holds : tie.Need-loop-holds Inv-loop μ-loop
 loop-holds c = search begins

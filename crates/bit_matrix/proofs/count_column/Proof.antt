@@ -11,6 +11,7 @@ use Rattle.reads.specs.Bits.{digit, range}
 use Rattle.reads.specs.BitsLaws.{digit-low}
 use Rattle.reads.specs.Runs.{Ran, Resumes}
 use Rattle.reads.specs.RunsLaws.{ran-done, resumes-start, resumes-step, resumes-end}
+use Rattle.bit_matrix.specs.declared.Shape.{Shape}
 use Rattle.bit_matrix.specs.Pixels.{tryGet}
 use Rattle.bit_matrix.specs.Area.{column, countBlack}
 use Rattle.bit_matrix.specs.declared.Sample.{Sample}
@@ -19,20 +20,20 @@ use Rattle.bit_matrix.specs.declared.Count.the-variants as counts
 use Rattle.bit_matrix.proofs.count_column.Statement.{statement}
 use Rattle.bit_matrix.proofs.count_column.Tie as tie
 
-record Counting (words marks₀ : List ℕ) (rowWords width height x from to black : ℕ) (marks : List ℕ) (count y : ℕ) : Type 0 where
+record Counting (words marks₀ : List ℕ) (shape : Shape) (x from to black : ℕ) (marks : List ℕ) (count y : ℕ) : Type 0 where
   sized : length marks ≡ length words
   room : count + (to - y) < 2 ^ 32
   resumes : Resumes words
-      (countBlack rowWords (length words) width height (column x y to) count) marks
-      (countBlack rowWords (length words) width height (column x from to) black) marks₀
+      (countBlack shape (column x y to) count) marks
+      (countBlack shape (column x from to) black) marks₀
 
-begins : {words marks : List ℕ} {rowWords width height x from to black : ℕ} → length marks ≡ length words → black + (to - from) < 2 ^ 32
-    → Counting words marks rowWords width height x from to black marks black from
+begins : {words marks : List ℕ} {shape : Shape} {x from to black : ℕ} → length marks ≡ length words → black + (to - from) < 2 ^ 32
+    → Counting words marks shape x from to black marks black from
 begins same low = record { sized = same; room = low; resumes = resumes-start }
 
-module _ {words marks₀ marks : List ℕ} {rowWords width height x from to black count y : ℕ}
-    (counting : Counting words marks₀ rowWords width height x from to black marks count y) where
-  at-end : to ≤ y → Ran (countBlack rowWords (length words) width height (column x from to) black) words marks₀ (counts.Black count) marks
+module _ {words marks₀ marks : List ℕ} {shape : Shape} {x from to black count y : ℕ}
+    (counting : Counting words marks₀ shape x from to black marks count y) where
+  at-end : to ≤ y → Ran (countBlack shape (column x from to) black) words marks₀ (counts.Black count) marks
   unfolding range countBlack
   at-end h =
       let none : to - y ≡ 0 = omega arith in
@@ -45,14 +46,14 @@ module _ {words marks₀ marks : List ℕ} {rowWords width height x from to blac
     room-for : (b : Bool) → count + digit b < 2 ^ 32
     room-for b = omega (arith, digit-low b, counting .room)
 
-    module _ {sample : Sample} {after : List ℕ} (ran : Ran (tryGet rowWords (length words) width height x y) words marks sample after) where
+    module _ {sample : Sample} {after : List ℕ} (ran : Ran (tryGet shape x y) words marks sample after) where
       outside : sample ≡ Outside
-          → Ran (countBlack rowWords (length words) width height (column x from to) black) words marks₀ counts.Outside after
+          → Ran (countBlack shape (column x from to) black) words marks₀ counts.Outside after
       unfolding range countBlack
       outside e = resumes-end (ran-done _) (resumes-step _ (rw e at ran) (rw left at (counting .resumes)))
 
       onward : (b : Bool) → sample ≡ Inside b → length after ≡ length marks
-          → Counting words marks₀ rowWords width height x from to black after (count + digit b) (y + 1)
+          → Counting words marks₀ shape x from to black after (count + digit b) (y + 1)
       unfolding range countBlack
       onward b e kept = record {
         sized = kept ∙ counting .sized;
@@ -61,10 +62,10 @@ module _ {words marks₀ marks : List ℕ} {rowWords width height x from to blac
       }
 
 abbrev Inv-loop : tie.InvT-loop
-Inv-loop words marks₀ row-words width height x from to black count₀ y₀ marks count y = Counting words marks₀ row-words width height x from to black marks count y
+Inv-loop words marks₀ shape x from to black count₀ y₀ marks count y = Counting words marks₀ shape x from to black marks count y
 
 abbrev μ-loop : tie.MeasureT-loop
-μ-loop words marks₀ row-words width height x from to black count₀ y₀ marks count y = to - y
+μ-loop words marks₀ shape x from to black count₀ y₀ marks count y = to - y
 
 loop-holds : tie.Need-loop-holds Inv-loop μ-loop
 loop-holds c = search begins

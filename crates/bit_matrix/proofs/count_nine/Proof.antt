@@ -3,18 +3,19 @@ use Prim.Native.Nat.{ℕ, _+_, _^_, _<_}
 use mathlib.Core.List.{List}
 use native.Mathlib.Omega.{arith}
 use borrow.Author.Needs.{needs}
+use Rattle.bit_matrix.specs.declared.Shape.{Shape}
 use Rattle.bit_matrix.specs.AreaWords.{Counted, threeOf}
 use Rattle.bit_matrix.proofs.AreaWordsLaws.{few-three, counted-nine}
 use Rattle.bit_matrix.proofs.count_nine.Statement.{statement}
 use Rattle.bit_matrix.proofs.count_nine.Tie as tie
 
-module _ {words m₀ m₁ m₂ : List ℕ} {a b : ℕ} (rowWords x y : ℕ) (first : Counted words m₀ (threeOf rowWords x y) a m₁)
-    (second : Counted words m₁ (threeOf rowWords x (y + 1)) b m₂) where
+module _ {words m₀ m₁ m₂ : List ℕ} {a b : ℕ} (shape : Shape) (x y : ℕ) (first : Counted words m₀ (threeOf shape x y) a m₁)
+    (second : Counted words m₁ (threeOf shape x (y + 1)) b m₂) where
   two-fit : a + b < 2 ^ 64
-  two-fit = omega (arith, few-three rowWords x y first, few-three rowWords x (y + 1) second)
+  two-fit = omega (arith, few-three shape x y first, few-three shape x (y + 1) second)
 
-  three-fit : {m₃ : List ℕ} {c : ℕ} → Counted words m₂ (threeOf rowWords x (y + 2)) c m₃ → a + b + c < 2 ^ 64
-  three-fit third = omega (arith, few-three rowWords x y first, few-three rowWords x (y + 1) second, few-three rowWords x (y + 2) third)
+  three-fit : {m₃ : List ℕ} {c : ℕ} → Counted words m₂ (threeOf shape x (y + 2)) c m₃ → a + b + c < 2 ^ 64
+  three-fit third = omega (arith, few-three shape x y first, few-three shape x (y + 1) second, few-three shape x (y + 2) third)
 
 count-three-requires : tie.Need-count-three-requires
 count-three-requires c κs = search needs

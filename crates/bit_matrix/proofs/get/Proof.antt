@@ -16,23 +16,25 @@ use lib.Pow.{shl-exact}
 use Rattle.reads.specs.Bits.{testBit, setBit, bitAt, mark}
 use Rattle.reads.specs.Runs.{Ran}
 use Rattle.reads.specs.RunsLaws.{ran-done, ran-read, ran-then, ran-else}
+use Rattle.bit_matrix.specs.declared.Shape.{Shape}
+use Rattle.bit_matrix.specs.Shape.{size}
 use Rattle.bit_matrix.specs.Pixels.{offset, pixel}
 use Rattle.bit_matrix.proofs.get.Statement.{statement}
 use Rattle.bit_matrix.proofs.get.Tie as tie
 
 -- n is the word that holds the pixel
-module _ (ws ms : List ℕ) (rowWords x y n : ℕ) (e : n ≡ offset rowWords x y) where
+module _ (ws ms : List ℕ) (shape : Shape) (x y n : ℕ) (e : n ≡ offset shape x y) where
   -- the bit's index, and its word and place
   index : ℕ
-  index = offset rowWords x y * 64 + x % 64
+  index = offset shape x y * 64 + x % 64
 
   word : index / 64 ≡ n
   unfolding index
-  word = digits-div (offset rowWords x y) (omega arith) ∙ sym e
+  word = digits-div (offset shape x y) (omega arith) ∙ sym e
 
   place : index % 64 ≡ x % 64
   unfolding index
-  place = digits-mod (offset rowWords x y) (omega arith)
+  place = digits-mod (offset shape x y) (omega arith)
 
   -- the code's shift and mask test the bit, and its union sets it
   tested : not (eqb (bitAnd (getD ws n 0 / 2 ^ (x % 64)) 1) 0) ≡ bitAt ws index
@@ -43,16 +45,16 @@ module _ (ws ms : List ℕ) (rowWords x y n : ℕ) (e : n ≡ offset rowWords x 
   unfolding mark setBit
   united = rw (word, place, shl-exact {a = 1} 1 (x % 64) 64 (lit< tt) (omega arith), one-mul)
 
-  past : length ws ≤ n → Ran (pixel rowWords (length ws) x y) ws ms false ms
+  past : length ws ≡ size shape → length ws ≤ n → Ran (pixel shape x y) ws ms false ms
   unfolding pixel
-  past h = ran-else _ _ (le-ltb _ _ (rw e at h)) (ran-done false)
+  past full h = ran-else _ _ (le-ltb _ _ (rw (e, full) at h)) (ran-done false)
 
-  stored : n < length ws
-      → Ran (pixel rowWords (length ws) x y) ws ms
+  stored : length ws ≡ size shape → n < length ws
+      → Ran (pixel shape x y) ws ms
       (not (eqb (bitAnd (getD ws n 0 / 2 ^ (x % 64)) 1) 0))
       (set ms n (bitOr (getD ms n 0) (1 * 2 ^ (x % 64) % 2 ^ 64)))
   unfolding pixel index
-  stored h = rw (tested, united) (ran-then _ _ (lt-ltb _ _ (rw e at h)) (ran-read index))
+  stored full h = rw (tested, united) (ran-then _ _ (lt-ltb _ _ (rw (e, full) at h)) (ran-read index))
 
 get-offset-requires : tie.Need-get-offset-requires
 get-offset-requires c κs = search needs

@@ -4,17 +4,16 @@ use mathlib.Core.Bool.{true, false≢true}
 use mathlib.Core.Path.{_≡_}
 use native.Mathlib.Omega.{arith}
 use borrow.Author.Needs.{needs}
-use borrow.Author.Tests.{ltb-true}
-use lib.Dec.{ltb}
-use Rattle.bit_matrix.specs.Pixels.{offset}
+use borrow.Author.Tests.{leb-true}
+use lib.Dec.{leb}
+use Rattle.bit_matrix.specs.declared.Shape.{Shape}
 use Rattle.bit_matrix.specs.AreaWords.{InWords}
 use Rattle.bit_matrix.proofs.in_words.Statement.{statement}
 use Rattle.bit_matrix.proofs.in_words.Tie as tie
 
-inside : {size rowWords width height x y n : ℕ} → 1 ≤ x → 1 ≤ y → x + 1 < width → y + 1 < height → (x - 1) % 64 ≤ 61
-    → n ≡ offset rowWords (x - 1) (y + 1) → ltb n size ≡ true → InWords size rowWords width height x y
-inside left top right bottom place is stored =
-    record { left = left; right = right; top = top; bottom = bottom; place = omega arith; stored = omega (arith, ltb-true) }
+inside : {shape : Shape} {x y : ℕ} → 1 ≤ x → 1 ≤ y → x + 1 < shape .width → y + 1 < shape .height → leb ((x - 1) % 64) 61 ≡ true → InWords shape x y
+inside left top right bottom place =
+    record { left = left; right = right; top = top; bottom = bottom; place = omega (arith, leb-true) }
 
 returns : tie.Need-returns
 returns c = λ e. absurd (false≢true e)
@@ -35,16 +34,7 @@ returns-4 : tie.Need-returns-4
 returns-4 c = λ e. absurd (false≢true e)
 
 returns-5 : tie.Need-returns-5
-returns-5 c = λ e. absurd (false≢true e)
-
-add-get-offset : tie.Need-add-get-offset
-add-get-offset c = search needs
-
-get-offset-requires : tie.Need-get-offset-requires
-get-offset-requires c κs = search needs
-
-returns-6 : tie.Need-returns-6
-returns-6 c = search inside
+returns-5 c = search inside
 
 pub in-words-spec : {M : Type 1} → statement M
 in-words-spec =
@@ -56,7 +46,4 @@ in-words-spec =
     returns-3
     add-if4
     returns-4
-    returns-5
-    add-get-offset
-    get-offset-requires
-    returns-6)
+    returns-5)

@@ -5,26 +5,31 @@ use mathlib.Core.Logic.{inl, inr}
 use mathlib.Core.Path.{_≡_}
 use native.Mathlib.Omega.{arith}
 use borrow.Author.Needs.{needs}
+use lib.ListN.{length}
+use Rattle.bit_matrix.specs.declared.Shape.{Shape}
+use Rattle.bit_matrix.specs.Shape.{Image, Inside}
 use Rattle.bit_matrix.specs.Pixels.{offset}
+use Rattle.bit_matrix.specs.PixelsLaws.{inside-stored}
 use Rattle.bit_matrix.specs.AreaWords.{Counted, nineOf, InWords}
 use Rattle.bit_matrix.proofs.AreaLaws.{area-outside}
 use Rattle.bit_matrix.proofs.AreaWordsLaws.{few-nine, area-in-words}
 use Rattle.bit_matrix.proofs.try_get_area.Statement.{statement}
 use Rattle.bit_matrix.proofs.try_get_area.Tie as tie
 
-last-row : {size rowWords width height x y : ℕ} → InWords size rowWords width height x y → offset rowWords (x - 1) (y - 1 + 2) < size
-last-row {y = y} inside =
+last-row : {shape : Shape} {x y : ℕ} {words marks : List ℕ} → Image shape words marks → InWords shape x y → offset shape (x - 1) (y - 1 + 2) < length words
+last-row {shape} {x} {y} image inside =
     let same : y - 1 + 2 ≡ y + 1 = omega (arith, inside .top) in
-    rw same (inside .stored)
+    let below : Inside shape (x - 1) (y + 1) = record { column = omega (arith, inside .right); row = inside .bottom } in
+    rw (same, image .stored) (inside-stored (image .limits) (x - 1) (y + 1) below)
 
-twice-fits : {words marks after : List ℕ} {n : ℕ} (rowWords x y : ℕ) → Counted words marks (nineOf rowWords x y) n after → 2 * n < 2 ^ 64
-twice-fits rowWords x y counted = omega (arith, few-nine rowWords x y counted)
+twice-fits : {words marks after : List ℕ} {n : ℕ} (shape : Shape) (x y : ℕ) → Counted words marks (nineOf shape x y) n after → 2 * n < 2 ^ 64
+twice-fits shape x y counted = omega (arith, few-nine shape x y counted)
 
 returns : tie.Need-returns
-returns c = area-outside _ _ _ _ _ _ (inl (c .if1 .taken))
+returns c = area-outside _ _ _ (inl (c .if1 .taken))
 
 returns-2 : tie.Need-returns-2
-returns-2 c = area-outside _ _ _ _ _ _ (inr (c .if2 .taken))
+returns-2 c = area-outside _ _ _ (inr (c .if2 .taken))
 
 in-words-requires : tie.Need-in-words-requires
 in-words-requires c κs = search needs
@@ -40,8 +45,8 @@ count-nine-requires c κs =
     let inside = c .before .before .in-words .ensures (c .before .if3 .taken) in
     search (needs, last-row)
 
-mul-t16 : tie.Need-mul-t16
-mul-t16 c = record { fits = search twice-fits }
+mul-t13 : tie.Need-mul-t13
+mul-t13 c = record { fits = search twice-fits }
 
 same-length : tie.Need-same-length
 same-length c = search needs
@@ -70,7 +75,7 @@ try-get-area-spec =
     sub-count-nine
     sub-count-nine-2
     count-nine-requires
-    mul-t16
+    mul-t13
     same-length
     returns-3
     area-by-pixels-requires

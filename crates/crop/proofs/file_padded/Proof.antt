@@ -10,10 +10,8 @@ use lib.Arith.{digits-lt}
 use lib.Dec.{lit<}
 use lib.ListN.{length, getD}
 use lib.Pow.{pow-pos, shl-exact}
-use Rattle.crop.specs.Below.{anyBelow}
-use Rattle.crop.specs.AnyLaws.{any-none, any-more, any-found}
 use Rattle.crop.specs.Crop.{rowBytes, fileLength}
-use Rattle.crop.proofs.Padding.{fileRow, lastByte, file-row-clean, file-row-set}
+use Rattle.crop.proofs.Padding.{Passed, passed-none, passed-more, passed-found, passed-all, fileRow, lastByte, file-row-clean, file-row-set}
 use Rattle.crop.proofs.file_padded.Statement.{statement}
 use Rattle.crop.proofs.file_padded.Tie as tie
 
@@ -24,9 +22,9 @@ unit-is s h = shl-exact {a = 1} 1 s 8 (lit< tt) (omega arith) ∙ one-mul (2 ^ s
 unit-pos : (s : ℕ) → s < 8 → 0 < 1 * 2 ^ s % 2 ^ 8
 unit-pos s h = rw (unit-is s h) (pow-pos s)
 
-module _ (file : List ℕ) (w h y : ℕ) (size : length file ≡ fileLength w h) (some : 1 ≤ w) (here : y < h) where
-  inside : lastByte w y < length file
-  inside = rw size (omega (arith, digits-lt {r = rowBytes w - 1} {c = rowBytes w} here (omega arith)))
+inside : (file : List ℕ) (w h y : ℕ) → length file ≡ fileLength w h → 1 ≤ w → y < h → lastByte w y < length file
+inside file w h y size some here =
+    rw size (omega (arith, digits-lt {r = rowBytes w - 1} {c = rowBytes w} here (omega arith)))
 
 -- what the code's remainder says of the row
 module _ (file : List ℕ) (w y : ℕ) (some : 1 ≤ w) where
@@ -45,10 +43,13 @@ module _ (file : List ℕ) (w y : ℕ) (some : 1 ≤ w) where
   row-set ne = file-row-set file w y some λ e. ne (rest-is ∙ e)
 
 abbrev Inv-loop : tie.InvT-loop
-Inv-loop file width height row unit rows y₀ y = (y ≤ height) × (anyBelow (fileRow file width) y ≡ false)
+Inv-loop file width row unit rows y₀ y = Passed (fileRow file width) rows y
 
 abbrev μ-loop : tie.MeasureT-loop
-μ-loop file width height row unit rows y₀ y = height - y
+μ-loop file width row unit rows y₀ y = rows - y
+
+cast-width : tie.Need-cast-width Inv-loop μ-loop
+cast-width c = search needs
 
 add-row : tie.Need-add-row Inv-loop μ-loop
 add-row c = search needs
@@ -65,11 +66,18 @@ cast-unit c = search needs
 shl-unit : tie.Need-shl-unit Inv-loop μ-loop
 shl-unit c = search needs
 
-inside-at : (c : tie.In-loop Inv-loop μ-loop) → lastByte (c .before .before .args .width) (c .before .loop .y) < length (c .before .before .args .file .now)
-inside-at c = inside (c .before .before .args .file .now) _ _ _ (c .before .before .pre .0) (omega arith) (c .loop-test .taken)
+cast-rows : tie.Need-cast-rows Inv-loop μ-loop
+cast-rows c = search needs
+
+inside-at : (c : tie.In-loop Inv-loop μ-loop)
+    → let a = c .before .before .before .before .args in
+    lastByte (a .shape .width) (c .before .loop .y) < length (a .file .now)
+inside-at c =
+    let s = c .before .before .before .before in
+    inside (s .args .file .now) (s .args .shape .width) (s .args .shape .height) (c .before .loop .y) (s .pre .1) (omega arith) (c .loop-test .taken)
 
 loop-holds : tie.Need-loop-holds Inv-loop μ-loop
-loop-holds c = (search needs, any-none _)
+loop-holds c = passed-none _
 
 mul-if1 : tie.Need-mul-if1 Inv-loop μ-loop
 mul-if1 c = omega (arith, inside-at c)
@@ -91,9 +99,10 @@ rem-if1 c = unit-pos _ (omega arith)
 
 returns : tie.Need-returns Inv-loop μ-loop
 returns c =
-    let a = c .before .before .before .before .args in
+    let a = c .before .before .before .before .before .before .args in
     let y = c .before .before .before .loop .y in
-    sym (any-found (fileRow (a .file .now) (a .width)) (a .height) (c .before .before .loop-test .taken) (row-set (a .file .now) (a .width) y (omega arith) (c .if1 .taken)))
+    passed-found (fileRow (a .file .now) (a .shape .width)) (c .before .before .loop-test .taken)
+    (row-set (a .file .now) (a .shape .width) y (omega arith) (c .if1 .taken))
 
 add-y : tie.Need-add-y Inv-loop μ-loop
 add-y c = search needs
@@ -103,15 +112,13 @@ loop-less c = search needs
 
 loop-again : tie.Need-loop-again Inv-loop μ-loop
 loop-again c =
-    let a = c .before .before .before .before .args in
+    let a = c .before .before .before .before .before .before .args in
     let y = c .before .before .before .loop .y in
-    (omega arith, any-more (fileRow (a .file .now) (a .width)) (row-clean (a .file .now) (a .width) y (omega arith) (c .if1 .left)) (c .before .before .before .loop .inv .1))
+    passed-more (fileRow (a .file .now) (a .shape .width)) (c .before .before .before .loop .inv) (c .before .before .loop-test .taken)
+    (row-clean (a .file .now) (a .shape .width) y (omega arith) (c .if1 .left))
 
 returns-2 : tie.Need-returns-2 Inv-loop μ-loop
-returns-2 c =
-    let a = c .before .before .args in
-    let all : c .before .loop .y ≡ a .height = omega arith in
-    sym (ap (anyBelow (fileRow (a .file .now) (a .width))) (sym all) ∙ c .before .loop .inv .1)
+returns-2 c = passed-all _ (c .before .loop .inv) (c .loop-test .left)
 
 pub file-padded-spec : {M : Type 1} → statement M
 file-padded-spec =
@@ -119,11 +126,13 @@ file-padded-spec =
     (tie.spec
     Inv-loop
     μ-loop
+    cast-width
     add-row
     mul-unit
     sub-unit
     cast-unit
     shl-unit
+    cast-rows
     loop-holds
     mul-if1
     sub-if1

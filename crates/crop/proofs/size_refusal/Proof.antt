@@ -5,18 +5,23 @@ use mathlib.Core.Bool.{true, false}
 use mathlib.Core.Path.{_≡_}
 use borrow.Author.Needs.{needs}
 use borrow.Author.Tests.{lt-ltb, le-ltb}
+use Rattle.bit_matrix.specs.declared.Shape.{Shape}
+use Rattle.bit_matrix.specs.Shape.{size}
 use Rattle.crop.specs.Chain.{chain}
-use Rattle.crop.specs.Crop.{imageWords, tooLarge, sizeRefusal}
+use Rattle.crop.specs.Crop.{tooLarge, sizeRefusal}
 use Rattle.crop.proofs.size_refusal.Statement.{statement}
 use Rattle.crop.proofs.size_refusal.Tie as tie
 
 -- the image's words, as they were worked out, against the limit
-module _ (w h : ℕ) {n : ℕ} (is : n ≡ imageWords w h) where
-  too-many : 8000 < n → tooLarge w h ≡ true
-  too-many more = lt-ltb 8000 (imageWords w h) (omega arith)
+module _ (shape : Shape) {n : ℕ} (is : n ≡ size shape) where
+  too-many : 8000 < n → tooLarge shape ≡ true
+  too-many more = lt-ltb 8000 (size shape) (omega arith)
 
-  few-enough : n ≤ 8000 → tooLarge w h ≡ false
-  few-enough fewer = le-ltb 8000 (imageWords w h) (omega arith)
+  few-enough : n ≤ 8000 → tooLarge shape ≡ false
+  few-enough fewer = le-ltb 8000 (size shape) (omega arith)
+
+image-words-requires : tie.Need-image-words-requires
+image-words-requires c κs = search needs
 
 returns : tie.Need-returns
 unfolding sizeRefusal
@@ -34,9 +39,6 @@ returns-4 : tie.Need-returns-4
 unfolding sizeRefusal
 returns-4 c = search chain depth 9
 
-image-words-requires : tie.Need-image-words-requires
-image-words-requires c κs = search needs
-
 returns-5 : tie.Need-returns-5
 unfolding sizeRefusal
 returns-5 c = search (chain, too-many) depth 9
@@ -45,7 +47,19 @@ returns-6 : tie.Need-returns-6
 unfolding sizeRefusal
 returns-6 c = search (chain, few-enough) depth 9
 
+returns-7 : tie.Need-returns-7
+unfolding sizeRefusal
+returns-7 c = search (chain, few-enough) depth 9
+
 pub size-refusal-spec : {M : Type 1} → statement M
 size-refusal-spec =
     tie.close
-    (tie.spec returns returns-2 returns-3 returns-4 image-words-requires returns-5 returns-6)
+    (tie.spec
+    image-words-requires
+    returns
+    returns-2
+    returns-3
+    returns-4
+    returns-5
+    returns-6
+    returns-7)

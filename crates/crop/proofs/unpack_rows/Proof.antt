@@ -17,23 +17,13 @@ use Rattle.crop.specs.AnyLaws.{none-holds}
 use Rattle.crop.specs.NumberLaws.{number-lt, number-same, test-number, test-past}
 use Rattle.crop.specs.FirstsLaws.{firsts-none, firsts-more, firsts-all}
 use Rattle.crop.specs.Bytes.{byteBit, mirrored}
-use Rattle.crop.specs.Crop.{rowBytes, rowWords, imageWords, fileLength, fileBit, rowPadded, FileAccepted}
-use Rattle.crop.specs.Unpack.{pixelOf, wordOf}
+use Rattle.bit_matrix.specs.declared.Shape.{Shape}
+use Rattle.bit_matrix.specs.Shape.{rowWords, size}
+use Rattle.crop.specs.Crop.{rowBytes, fileBit, filePadded, rowPadded, FileAccepted}
+use Rattle.crop.specs.Unpack.{pixelOf, wordOf, unpacked}
 use Rattle.crop.specs.UnpackLaws.{word-at}
 use Rattle.crop.proofs.unpack_rows.Statement.{statement}
 use Rattle.crop.proofs.unpack_rows.Tie as tie
-
--- word x of row y is one of the image's, so that its row is too, and lies in the file
-module _ (w h x y : ℕ) where
-  row-below : y * rowWords w + x < imageWords w h → y < h
-  row-below inside = go (decLt y h)
-    where
-      go : Dec (y < h) → y < h
-      go (yes l) = l
-      go (no l) = absurd (omega (arith, mul-le-mul-right {m = h} {n = y} (rowWords w) (omega arith)))
-
-  row-inside : y < h → 4 + y * rowBytes w + rowBytes w ≤ fileLength w h
-  row-inside row = omega (arith, mul-le-mul-right {m = suc y} {n = h} (rowBytes w) row)
 
 -- bit k of word x lies in the row's bytes before and after its byte is reversed
 mirrored-in : (bytes x k : ℕ) → k < 64 → x * 64 + k < 8 * bytes → mirrored k < 8 * min 8 (bytes - 8 * x)
@@ -41,7 +31,7 @@ mirrored-in bytes x k h l =
     let byte : k / 8 < min 8 (bytes - 8 * x) = omega arith in
     omega arith
 
-module _ (file : List ℕ) (w h : ℕ) (ok : FileAccepted file w h) (x y : ℕ) (column : x < rowWords w) (row : y < h) where
+module _ (file : List ℕ) (w h : ℕ) (clean : filePadded file w h ≡ false) (x y : ℕ) (column : x < rowWords w) (row : y < h) where
   -- a bit of the row's bytes is the column's pixel, also in the padding
   bit-is : (c : ℕ) → c < 8 * rowBytes w → fileBit file w c y ≡ pixelOf file w c y
   unfolding pixelOf rowPadded
@@ -54,7 +44,7 @@ module _ (file : List ℕ) (w h : ℕ) (ok : FileAccepted file w h) (x y : ℕ) 
           let past : w ≤ c = omega arith in
           rw le-ltb
           (ap (λ (n : ℕ). fileBit file w n y) (sym place)
-          ∙ none-holds (λ k. fileBit file w (w + k) y) (8 * rowBytes w - w) (none-holds (rowPadded (fileBit file w) w (8 * rowBytes w)) h (ok .clean) row) (omega arith))
+          ∙ none-holds (λ k. fileBit file w (w + k) y) (8 * rowBytes w - w) (none-holds (rowPadded (fileBit file w) w (8 * rowBytes w)) h clean row) (omega arith))
 
   -- the bytes of word x, each reversed, are that word
   module _ {loaded : ℕ} (is : loaded ≡ number (byteBit file (4 + y * rowBytes w + 8 * x)) (8 * min 8 (rowBytes w - 8 * x))) where
@@ -76,54 +66,108 @@ module _ (file : List ℕ) (w h : ℕ) (ok : FileAccepted file w h) (x y : ℕ) 
     word-is : number (λ k. testBit loaded (mirrored k)) 64 ≡ wordOf file w (y * rowWords w + x)
     word-is = number-same (λ k. testBit loaded (mirrored k)) (λ k. pixelOf file w (x * 64 + k) y) 64 reversed-bit ∙ sym (word-at file w h x y column)
 
+-- the words before i are stored, and i is word x of row y
+record Storing (file words₀ : List ℕ) (width row : ℕ) (words : List ℕ) (x y i : ℕ) : Type 0 where
+  most : i ≤ length words₀
+  place : i ≡ y * row + x
+  column : x < row
+  stored : words ≡ firsts (wordOf file width) i ++ drop i words₀
+  sized : length words ≡ length words₀
+
+module _ {file : List ℕ} (words₀ : List ℕ) {shape : Shape} (ok : FileAccepted shape file) where
+  begins : Storing file words₀ (shape .width) (shape .«row_words») words₀ 0 0 0
+  begins = record {
+    most = omega arith;
+    place = omega arith;
+    column = omega (arith, ok .limits);
+    stored = firsts-none (wordOf file (shape .width)) words₀;
+    sized = refl;
+  }
+
+  module _ (fits : length words₀ ≡ size shape) {words : List ℕ} {x y i : ℕ}
+      (storing : Storing file words₀ (shape .width) (shape .«row_words») words x y i) where
+    at-end : length words ≤ i → words ≡ unpacked file shape
+    at-end past =
+        let all : i ≡ size shape = omega (arith, storing .most, storing .sized) in
+        storing .stored ∙ firsts-all (wordOf file (shape .width)) words₀ {n = i} (omega (arith, storing .sized)) ∙ ap (firsts (wordOf file (shape .width))) all
+
+    module _ (here : i < length words) where
+      -- the row is one of the image's, and lies in the file
+      row-below : y < shape .height
+      row-below = go (decLt y (shape .height))
+        where
+          go : Dec (y < shape .height) → y < shape .height
+          go (yes l) = l
+          go (no l) =
+              absurd
+              (omega (arith, storing .place, storing .sized, mul-le-mul-right {m = shape .height} {n = y} (shape .«row_words») (omega arith)))
+
+      row-inside : 4 + y * rowBytes (shape .width) + rowBytes (shape .width) ≤ length file
+      row-inside = omega (arith, ok .long, mul-le-mul-right {m = suc y} {n = shape .height} (rowBytes (shape .width)) row-below)
+
+      word-inside : 8 * x < rowBytes (shape .width)
+      word-inside = omega (arith, ok .limits .rows, storing .column)
+
+      -- one word more is stored
+      module _ {loaded word : ℕ}
+          (is : loaded ≡ number (byteBit file (4 + y * rowBytes (shape .width) + 8 * x)) (8 * min 8 (rowBytes (shape .width) - 8 * x)))
+          (reversed : word ≡ number (λ k. testBit loaded (mirrored k)) 64) where
+        more : set words i word ≡ firsts (wordOf file (shape .width)) (i + 1) ++ drop (i + 1) words₀
+        more =
+            let rows : shape .«row_words» ≡ rowWords (shape .width) = ok .limits .rows in
+            let column : x < rowWords (shape .width) = omega (arith, storing .column) in
+            let place : y * rowWords (shape .width) + x ≡ i = sym (storing .place ∙ ap (λ (n : ℕ). y * n + x) rows) in
+            ap (λ (d : List ℕ). set d i word) (storing .stored)
+            ∙ firsts-more (wordOf file (shape .width)) words₀ i (omega (arith, storing .sized))
+            (reversed ∙ word-is file (shape .width) (shape .height) (ok .clean) x y column row-below is ∙ ap (wordOf file (shape .width)) place)
+
+        same-row : (x + 1 ≡ shape .«row_words» → ⊥) → Storing file words₀ (shape .width) (shape .«row_words») (set words i word) (x + 1) y (i + 1)
+        same-row other = record {
+          most = omega (arith, storing .sized);
+          place = omega (arith, storing .place);
+          column = omega (arith, storing .column);
+          stored = more;
+          sized = simp length-set (storing .sized);
+        }
+
+        next-row : x + 1 ≡ shape .«row_words» → Storing file words₀ (shape .width) (shape .«row_words») (set words i word) 0 (y + 1) (i + 1)
+        next-row last = record {
+          most = omega (arith, storing .sized);
+          place = omega (arith, storing .place);
+          column = omega arith;
+          stored = more;
+          sized = simp length-set (storing .sized);
+        }
+
 abbrev Inv-loop : tie.InvT-loop
-Inv-loop file width height words₀ bytes row x₀ y₀ i₀ words x y i =
-    (i ≤ length words₀) × (i ≡ y * rowWords width + x) × (x < rowWords width) × (words ≡ firsts (wordOf file width) i ++ drop i words₀)
-    × (length words ≡ length words₀)
+Inv-loop file words₀ width bytes row x₀ y₀ i₀ words x y i = Storing file words₀ width row words x y i
 
 abbrev μ-loop : tie.MeasureT-loop
-μ-loop file width height words₀ bytes row x₀ y₀ i₀ words x y i = length words₀ - i
+μ-loop file words₀ width bytes row x₀ y₀ i₀ words x y i = length words₀ - i
+
+cast-width : tie.Need-cast-width Inv-loop μ-loop
+cast-width c = search needs
 
 add-bytes : tie.Need-add-bytes Inv-loop μ-loop
 add-bytes c = search needs
 
-add-row : tie.Need-add-row Inv-loop μ-loop
-add-row c = search needs
-
-row-at : (c : tie.In-loop Inv-loop μ-loop)
-    → (4 + c .before .loop .y * rowBytes (c .before .before .before .before .args .width) + rowBytes (c .before .before .before .before .args .width)
-    ≤ length (c .before .before .before .before .args .file .now))
-    × (c .before .loop .y < c .before .before .before .before .args .height)
-row-at c =
-    let a = c .before .before .before .before .args in
-    let row = row-below (a .width) (a .height) (c .before .loop .x) (c .before .loop .y) (omega arith) in
-    (omega (arith, row-inside (a .width) (a .height) (c .before .loop .x) (c .before .loop .y) row), row)
-
--- one word more is stored
-stored-at : (c : tie.After-reverse Inv-loop μ-loop)
-    → set (c .before .before .before .loop .words) (c .before .before .before .loop .i) (c .reverse .result)
-    ≡ firsts (wordOf (c .before .before .before .before .before .before .args .file .now) (c .before .before .before .before .before .before .args .width)) (c .before .before .before .loop .i + 1)
-    ++ drop (c .before .before .before .loop .i + 1) (c .before .before .before .before .before .before .args .words .now)
-stored-at c =
-    let a = c .before .before .before .before .before .before .args in
-    let l = c .before .before .before .loop in
-    ap (λ (d : List ℕ). set d (l .i) (c .reverse .result)) (l .inv .3)
-    ∙ firsts-more (wordOf (a .file .now) (a .width)) (a .words .now) (l .i) (omega arith)
-    (c .reverse .ensures
-    ∙ word-is (a .file .now) (a .width) (a .height) (c .before .before .before .before .before .before .pre .0) (l .x) (l .y) (l .inv .2) (row-at (c .before .before) .1) (c .before .load .ensures)
-    ∙ ap (wordOf (a .file .now) (a .width)) (sym (l .inv .1)))
-
 loop-holds : tie.Need-loop-holds Inv-loop μ-loop
-loop-holds c = (omega arith, omega arith, omega (arith, c .before .before .pre .0 .within), firsts-none _ _, search needs)
+loop-holds c = search begins
+
+inside-at : (c : tie.In-loop Inv-loop μ-loop)
+    → let s = c .before .before .before .before .before in
+    let y = c .before .loop .y in
+    (4 + y * rowBytes (s .args .shape .width) + rowBytes (s .args .shape .width) ≤ length (s .args .file .now)) × (y < s .args .shape .height)
+inside-at c = (search row-inside, search row-below)
 
 mul-load : tie.Need-mul-load Inv-loop μ-loop
-mul-load c = omega (arith, row-at c)
+mul-load c = omega (arith, inside-at c)
 
 add-load : tie.Need-add-load Inv-loop μ-loop
-add-load c = omega (arith, row-at c)
+add-load c = omega (arith, inside-at c)
 
 load-requires : tie.Need-load-requires Inv-loop μ-loop
-load-requires c κs = (omega (arith, row-at c), omega arith)
+load-requires c κs = search (row-inside, word-inside)
 
 reverse-requires : tie.Need-reverse-requires Inv-loop μ-loop
 reverse-requires c κs = search needs
@@ -141,30 +185,31 @@ add-x : tie.Need-add-x Inv-loop μ-loop
 add-x c = search needs
 
 add-y : tie.Need-add-y Inv-loop μ-loop
-add-y c = omega (arith, row-at (c .before .before .before) .1)
+add-y c = omega (arith, inside-at (c .before .before .before) .1)
 
 loop-less : tie.Need-loop-less Inv-loop μ-loop
 loop-less c = search needs
 
 loop-again : tie.Need-loop-again Inv-loop μ-loop
-loop-again c = (omega arith, omega arith, omega (arith, c .before .before .before .before .before .before .before .pre .0 .within), stored-at (c .before), simp length-set (c .before .before .before .before .loop .inv .4))
+loop-again c =
+    let s = c .before .before .before .before .before .before .before .before in
+    next-row (s .args .words .now) (s .pre .0) (s .pre .1) (c .before .before .before .before .loop .inv) (c .before .before .before .loop-test .taken)
+    (c .before .before .load .ensures) (c .before .reverse .ensures) (c .if1 .taken)
 
 loop-less-2 : tie.Need-loop-less-2 Inv-loop μ-loop
 loop-less-2 c = search needs
 
 loop-again-2 : tie.Need-loop-again-2 Inv-loop μ-loop
-loop-again-2 c = (omega arith, omega arith, omega arith, stored-at (c .before), simp length-set (c .before .before .before .before .loop .inv .4))
+loop-again-2 c =
+    let s = c .before .before .before .before .before .before .before .before in
+    same-row (s .args .words .now) (s .pre .0) (s .pre .1) (c .before .before .before .before .loop .inv) (c .before .before .before .loop-test .taken)
+    (c .before .before .load .ensures) (c .before .reverse .ensures) (c .if1 .left)
 
 same-length : tie.Need-same-length Inv-loop μ-loop
 same-length c = search needs
 
 returns : tie.Need-returns Inv-loop μ-loop
-returns c =
-    let a = c .before .before .before .before .args in
-    let i = c .before .loop .i in
-    let all : i ≡ imageWords (a .width) (a .height) = omega arith in
-    c .before .loop .inv .3 ∙ firsts-all (wordOf (a .file .now) (a .width)) (a .words .now) {n = i} (omega arith)
-    ∙ ap (firsts (wordOf (a .file .now) (a .width))) all
+returns c = search at-end
 
 pub unpack-rows-spec : {M : Type 1} → statement M
 unpack-rows-spec =
@@ -172,8 +217,8 @@ unpack-rows-spec =
     (tie.spec
     Inv-loop
     μ-loop
+    cast-width
     add-bytes
-    add-row
     loop-holds
     mul-load
     add-load

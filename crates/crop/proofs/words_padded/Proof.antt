@@ -3,46 +3,49 @@ use Prim.Native.Nat.{ℕ, _+_, _*_, _-_, _/_, _^_, _≤_, _<_}
 use native.Mathlib.Omega.{arith}
 use mathlib.Core.Bool.{true, false}
 use mathlib.Core.List.{List}
-use mathlib.Core.Path.{_≡_, sym, ap, _∙_}
+use mathlib.Core.Path.{_≡_, sym, ap, subst, _∙_}
 use borrow.Author.Needs.{needs}
 use lib.Arith.{digits-lt}
 use lib.ListN.{length, getD}
 use lib.Pow.{shr-shr}
-use Rattle.crop.specs.Below.{anyBelow}
-use Rattle.crop.specs.AnyLaws.{any-none, any-more, any-found}
-use Rattle.crop.specs.Crop.{rowWords, imageWords}
-use Rattle.crop.proofs.Padding.{wordsRow, lastWord, words-row-clean, words-row-set}
+use Rattle.bit_matrix.specs.declared.Shape.{Shape}
+use Rattle.bit_matrix.specs.Shape.{rowWords, size, Limits}
+use Rattle.crop.proofs.Padding.{Passed, passed-none, passed-more, passed-found, passed-all, wordsRow, lastWord, words-row-clean, words-row-set}
 use Rattle.crop.proofs.words_padded.Statement.{statement}
 use Rattle.crop.proofs.words_padded.Tie as tie
 
-module _ (words : List ℕ) (w h y : ℕ) (size : length words ≡ imageWords w h) (some : 1 ≤ w) (here : y < h) where
-  inside : lastWord w y < length words
-  inside = rw size (omega (arith, digits-lt {r = rowWords w - 1} {c = rowWords w} here (omega arith)))
+inside : (words : List ℕ) (shape : Shape) (y : ℕ) → Limits shape → length words ≡ size shape → y < shape .height
+    → y * (shape .«row_words») + (shape .«row_words» - 1) < length words
+inside words shape y limits stored here =
+    rw stored (omega (arith, limits .rows, digits-lt {r = shape .«row_words» - 1} {c = shape .«row_words»} here (omega (arith, limits .rows))))
 
 -- what the code's two shifts say of the row
-module _ (words : List ℕ) (w y : ℕ) (some : 1 ≤ w) (fits : getD words (lastWord w y) 0 < 2 ^ 64) where
-  abbrev rest : ℕ
-  rest = getD words (lastWord w y) 0 / 2 ^ (w - (rowWords w - 1) * 64 - 1) / 2 ^ 1
+module _ (words : List ℕ) (row w y : ℕ) (rows : row ≡ rowWords w) (some : 1 ≤ w) (fits : getD words (y * row + (row - 1)) 0 < 2 ^ 64) where
+  abbrev shifted : ℕ → ℕ
+  shifted n = getD words (y * n + (n - 1)) 0 / 2 ^ (w - (n - 1) * 64 - 1) / 2 ^ 1
 
-  rest-is : rest ≡ getD words (lastWord w y) 0 / 2 ^ (w - (rowWords w - 1) * 64)
-  rest-is =
+  shifted-is : shifted row ≡ getD words (lastWord w y) 0 / 2 ^ (w - (rowWords w - 1) * 64)
+  shifted-is =
       let used : w - (rowWords w - 1) * 64 - 1 + 1 ≡ w - (rowWords w - 1) * 64 = omega arith in
-      shr-shr (getD words (lastWord w y) 0) (w - (rowWords w - 1) * 64 - 1) 1 ∙ ap (λ (n : ℕ). getD words (lastWord w y) 0 / 2 ^ n) used
+      ap shifted rows ∙ shr-shr (getD words (lastWord w y) 0) (w - (rowWords w - 1) * 64 - 1) 1 ∙ ap (λ (n : ℕ). getD words (lastWord w y) 0 / 2 ^ n) used
 
-  row-clean : rest ≡ 0 → wordsRow words w y ≡ false
-  row-clean e = words-row-clean words w y some fits (sym rest-is ∙ e)
+  low : getD words (lastWord w y) 0 < 2 ^ 64
+  low = subst (λ (n : ℕ). getD words (y * n + (n - 1)) 0 < 2 ^ 64) rows fits
 
-  row-set : (rest ≡ 0 → ⊥) → wordsRow words w y ≡ true
-  row-set ne = words-row-set words w y some fits λ e. ne (rest-is ∙ e)
+  row-clean : shifted row ≡ 0 → wordsRow words w y ≡ false
+  row-clean e = words-row-clean words w y some low (sym shifted-is ∙ e)
+
+  row-set : (shifted row ≡ 0 → ⊥) → wordsRow words w y ≡ true
+  row-set ne = words-row-set words w y some low λ e. ne (shifted-is ∙ e)
 
 abbrev Inv-loop : tie.InvT-loop
-Inv-loop words width height row used rows y₀ y = (y ≤ height) × (anyBelow (wordsRow words width) y ≡ false)
+Inv-loop words width row used rows y₀ y = Passed (wordsRow words width) rows y
 
 abbrev μ-loop : tie.MeasureT-loop
-μ-loop words width height row used rows y₀ y = height - y
+μ-loop words width row used rows y₀ y = rows - y
 
-add-row : tie.Need-add-row Inv-loop μ-loop
-add-row c = search needs
+cast-width : tie.Need-cast-width Inv-loop μ-loop
+cast-width c = search needs
 
 sub-used : tie.Need-sub-used Inv-loop μ-loop
 sub-used c = search needs
@@ -53,11 +56,18 @@ mul-used c = search needs
 sub-used-2 : tie.Need-sub-used-2 Inv-loop μ-loop
 sub-used-2 c = search needs
 
-inside-at : (c : tie.In-loop Inv-loop μ-loop) → lastWord (c .before .before .args .width) (c .before .loop .y) < length (c .before .before .args .words .now)
-inside-at c = inside (c .before .before .args .words .now) _ _ _ (c .before .before .pre .0) (omega arith) (c .loop-test .taken)
+cast-rows : tie.Need-cast-rows Inv-loop μ-loop
+cast-rows c = search needs
+
+inside-at : (c : tie.In-loop Inv-loop μ-loop)
+    → let a = c .before .before .before .before .args in
+    c .before .loop .y * (a .shape .«row_words») + (a .shape .«row_words» - 1) < length (a .words .now)
+inside-at c =
+    let s = c .before .before .before .before in
+    inside (s .args .words .now) (s .args .shape) (c .before .loop .y) (s .pre .0) (s .pre .1) (c .loop-test .taken)
 
 loop-holds : tie.Need-loop-holds Inv-loop μ-loop
-loop-holds c = (search needs, any-none _)
+loop-holds c = passed-none _
 
 mul-if1 : tie.Need-mul-if1 Inv-loop μ-loop
 mul-if1 c = omega (arith, inside-at c)
@@ -82,11 +92,10 @@ shr-if1 c = search needs
 
 returns : tie.Need-returns Inv-loop μ-loop
 returns c =
-    let a = c .before .before .before .before .args in
+    let s = c .before .before .before .before .before .before in
     let y = c .before .before .before .loop .y in
-    sym
-    (any-found (wordsRow (a .words .now) (a .width)) (a .height) (c .before .before .loop-test .taken)
-    (row-set (a .words .now) (a .width) y (omega arith) (c .before .shared-slice-known .given (lastWord (a .width) y) .fits) (c .if1 .taken)))
+    passed-found (wordsRow (s .args .words .now) (s .args .shape .width)) (c .before .before .loop-test .taken)
+    (row-set (s .args .words .now) _ (s .args .shape .width) y (s .pre .0 .rows) (omega arith) (c .before .shared-slice-known .given _ .fits) (c .if1 .taken))
 
 add-y : tie.Need-add-y Inv-loop μ-loop
 add-y c = search needs
@@ -96,17 +105,13 @@ loop-less c = search needs
 
 loop-again : tie.Need-loop-again Inv-loop μ-loop
 loop-again c =
-    let a = c .before .before .before .before .args in
-    let y = c .before .before .before .loop .y in (
-      omega arith,
-      any-more (wordsRow (a .words .now) (a .width)) (row-clean (a .words .now) (a .width) y (omega arith) (c .before .shared-slice-known .given (lastWord (a .width) y) .fits) (c .if1 .left)) (c .before .before .before .loop .inv .1),
-    )
+    let s = c .before .before .before .before .before .before in
+    let y = c .before .before .before .loop .y in
+    passed-more (wordsRow (s .args .words .now) (s .args .shape .width)) (c .before .before .before .loop .inv) (c .before .before .loop-test .taken)
+    (row-clean (s .args .words .now) _ (s .args .shape .width) y (s .pre .0 .rows) (omega arith) (c .before .shared-slice-known .given _ .fits) (c .if1 .left))
 
 returns-2 : tie.Need-returns-2 Inv-loop μ-loop
-returns-2 c =
-    let a = c .before .before .args in
-    let all : c .before .loop .y ≡ a .height = omega arith in
-    sym (ap (anyBelow (wordsRow (a .words .now) (a .width))) (sym all) ∙ c .before .loop .inv .1)
+returns-2 c = passed-all _ (c .before .loop .inv) (c .loop-test .left)
 
 pub words-padded-spec : {M : Type 1} → statement M
 words-padded-spec =
@@ -114,10 +119,11 @@ words-padded-spec =
     (tie.spec
     Inv-loop
     μ-loop
-    add-row
+    cast-width
     sub-used
     mul-used
     sub-used-2
+    cast-rows
     loop-holds
     mul-if1
     sub-if1

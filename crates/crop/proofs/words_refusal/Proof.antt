@@ -1,73 +1,87 @@
--- `crop::words_refusal` meets its contract: at each return, the tests that led there decide the definition's. Assumes nothing.
+-- `crop::words_refusal` meets its contract: one lemma for each return, by the shape that was worked out. Assumes nothing.
 use Prim.Native.Nat.{ℕ}
 use native.Mathlib.Omega.{arith}
-use mathlib.Core.Bool.{cond, _||_}
+use mathlib.Core.Bool.{Bool, true, false}
 use mathlib.Core.List.{List}
-use mathlib.Core.Path.{_≡_, sym, ap, _∙_}
+use mathlib.Core.Path.{_≡_, refl, sym, ap, ap₂, _∙_}
 use borrow.Author.Needs.{needs}
 use lib.ListN.{length}
-use Rattle.crop.specs.Chain.{chain}
-use Rattle.crop.specs.Crop.{imageWords, badSize, tooLarge, misfit, wordsPadded, noRecord, wordsRefusal, Within}
-use Rattle.crop.specs.CropLaws.{size-kept, size-next, within}
+use Rattle.bit_matrix.specs.declared.Shape.{Shape}
+use Rattle.bit_matrix.specs.Shape.{shapeOf, size, Limits}
+use Rattle.crop.specs.Chain.{chain-here, chain-next, else-kept, else-next}
+use Rattle.crop.specs.Crop.{imageWords, wordsPadded, sizeRefusal, searchRoom, wordsRefusalOf, leastSide, wordsRefusal}
+use Rattle.crop.specs.CropLaws.{rows-of, size-within}
 use Rattle.crop.proofs.words_refusal.Statement.{statement}
 use Rattle.crop.proofs.words_refusal.Tie as tie
 
--- the chain by the image's number of words
-abbrev numbered : ℕ → List ℕ → ℕ → ℕ → ℕ → ℕ → ℕ
-numbered n words w h marks records =
-    cond (badSize w h) 2
-    (cond (tooLarge w h) 3
-    (cond (misfit (length words) n) 4
-    (cond (wordsPadded words w h) 5
-    (cond (misfit marks n || noRecord records) 6
-    0))))
+module _ (words : List ℕ) (w h marks records : ℕ) {shape : Shape} (is : shape ≡ shapeOf w h) {needed answer : ℕ} (needed-is : needed ≡ size shape)
+    (sized : answer ≡ sizeRefusal leastSide shape (length words) needed) where
+  module _ (zero : answer ≡ 0) where
+    within : Limits shape × (length words ≡ needed)
+    within = size-within leastSide (omega arith) shape (length words) needed (rows-of is) (sym sized ∙ zero)
 
-by : {n : ℕ} (words : List ℕ) (w h marks records : ℕ) {r : ℕ} → n ≡ imageWords w h → r ≡ numbered n words w h marks records
-    → r ≡ wordsRefusal words w h marks records
-unfolding wordsRefusal
-by words w h marks records is e = e ∙ ap (λ (n : ℕ). numbered n words w h marks records) is
+    limited : Limits shape
+    limited = within .0
+
+    fitting : length words ≡ size shape
+    fitting = within .1 ∙ needed-is
+
+  long : needed ≡ imageWords w h
+  long = needed-is ∙ ap size is
+
+  size-is : answer ≡ sizeRefusal leastSide (shapeOf w h) (length words) (imageWords w h)
+  size-is = sized ∙ ap₂ (λ (s : Shape) (n : ℕ). sizeRefusal leastSide s (length words) n) is long
+
+  bad-size : (answer ≡ 0 → ⊥) → answer ≡ wordsRefusal words w h marks records
+  unfolding wordsRefusalOf
+  bad-size ne = else-kept _ (else-kept _ size-is ne) ne
+
+  module _ (zero : answer ≡ 0) {padded : Bool} (tested : padded ≡ wordsPadded words (shape .width) (shape .height)) where
+    tested-is : wordsPadded words w h ≡ padded
+    tested-is = sym (tested ∙ ap (λ (s : Shape). wordsPadded words (s .width) (s .height)) is)
+
+    bad-padding : padded ≡ true → 5 ≡ wordsRefusal words w h marks records
+    unfolding wordsRefusalOf
+    bad-padding set = else-kept _ (else-next _ size-is zero (chain-here 5 _ (tested-is ∙ set) refl)) λ e. omega arith
+
+    onward : {r : ℕ} → padded ≡ false → r ≡ searchRoom needed marks records → r ≡ wordsRefusal words w h marks records
+    unfolding wordsRefusalOf
+    onward clean room =
+        else-next _ (else-next _ size-is zero (chain-next 5 _ (tested-is ∙ clean) refl)) refl (room ∙ ap (λ (n : ℕ). searchRoom n marks records) long)
+
+shape-of-requires : tie.Need-shape-of-requires
+shape-of-requires c κs = search needs
 
 image-words-requires : tie.Need-image-words-requires
-image-words-requires c κs = search needs
+image-words-requires c κs = search rows-of
 
 size-refusal-requires : tie.Need-size-refusal-requires
-size-refusal-requires c κs = search needs
+size-refusal-requires c κs = search rows-of
 
 returns : tie.Need-returns
-unfolding wordsRefusal
-returns c = search (chain, size-kept) depth 12
-
-returns-2 : tie.Need-returns-2
-returns-2 c = by _ _ _ _ _ (c .before .before .before .image-words .ensures) (search (chain, size-next) depth 12)
+returns c = search bad-size
 
 words-padded-requires : tie.Need-words-padded-requires
-words-padded-requires c κs =
-    let a = c .before .before .before .before .before .args in
-    let bounds : Within (a .width) (a .height) = within _ _ (sym (c .before .before .size-refusal .ensures) ∙ c .before .if1 .left) in
-    (c .if2 .left ∙ c .before .before .before .image-words .ensures, omega arith, omega arith)
+words-padded-requires c κs = search (limited, fitting)
+
+returns-2 : tie.Need-returns-2
+returns-2 c = search bad-padding
+
+search-room-requires : tie.Need-search-room-requires
+search-room-requires c κs = search needs
 
 returns-3 : tie.Need-returns-3
-returns-3 c = by _ _ _ _ _ (c .before .before .before .before .before .image-words .ensures) (search (chain, size-next, sym (c .before .words-padded .ensures) ∙ c .if3 .taken) depth 12)
-
-returns-4 : tie.Need-returns-4
-returns-4 c = by _ _ _ _ _ (c .before .before .before .before .before .before .image-words .ensures) (search (chain, size-next, sym (c .before .before .words-padded .ensures) ∙ c .before .if3 .left) depth 12)
-
-returns-5 : tie.Need-returns-5
-returns-5 c = by _ _ _ _ _ (c .before .before .before .before .before .before .before .image-words .ensures) (search (chain, size-next, sym (c .before .before .before .words-padded .ensures) ∙ c .before .before .if3 .left) depth 12)
-
-returns-6 : tie.Need-returns-6
-returns-6 c = by _ _ _ _ _ (c .before .before .before .before .before .before .before .image-words .ensures) (search (chain, size-next, sym (c .before .before .before .words-padded .ensures) ∙ c .before .before .if3 .left) depth 12)
+returns-3 c = search onward
 
 pub words-refusal-spec : {M : Type 1} → statement M
 words-refusal-spec =
     tie.close
     (tie.spec
+    shape-of-requires
     image-words-requires
     size-refusal-requires
     returns
-    returns-2
     words-padded-requires
-    returns-3
-    returns-4
-    returns-5
-    returns-6)
+    returns-2
+    search-room-requires
+    returns-3)

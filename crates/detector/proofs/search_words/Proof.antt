@@ -1,6 +1,6 @@
 -- `detector::search_words` meets its contract: one lemma for each return. Assumes nothing.
-use Rattle.detector.specs.DetectorLaws.{words-refused, words-fit, words-searched}
 use borrow.Author.Needs.{needs}
+use Rattle.detector.specs.DetectorLaws.{words-refused, words-image, words-room, words-searched}
 use Rattle.detector.proofs.search_words.Statement.{statement}
 use Rattle.detector.proofs.search_words.Tie as tie
 
@@ -13,8 +13,11 @@ refused-requires c κs = search needs
 returns : tie.Need-returns
 returns c = words-refused _ _ _ _ _ (c .before .before .words-refusal .ensures) (c .before .if1 .taken) (c .refused .ensures)
 
+shape-of-requires : tie.Need-shape-of-requires
+shape-of-requires c κs = search needs
+
 search-accepted-requires : tie.Need-search-accepted-requires
-search-accepted-requires c κs = search words-fit
+search-accepted-requires c κs = search (words-image, words-room)
 
 same-length : tie.Need-same-length
 same-length c = search needs
@@ -32,6 +35,7 @@ search-words-spec =
     words-refusal-requires
     refused-requires
     returns
+    shape-of-requires
     search-accepted-requires
     same-length
     same-length-2

@@ -10,10 +10,12 @@ use lib.Ieee.{Float, binary32, ofBits, ofInt, add, sub, mul, div, toSigned}
 use mir.Syntax.{w32}
 use mir.Val.{toZ, SFits}
 use mir.ValLaws.{toZ-pos}
+use Rattle.bit_matrix.specs.declared.Shape.{Shape}
+use Rattle.rxing_result_point.specs.declared.PointU.{PointU}
 use Rattle.detector_boundary.specs.declared.Boundary.{Boundary}
-use Rattle.detector_boundary.specs.Boundary.{Pixel, clamped, leftShift, rightShift, boundaryOf}
+use Rattle.detector_boundary.specs.Boundary.{Centered, clamped, leftShift, rightShift, boundaryOf}
 use Rattle.detector_boundary.specs.ShiftLaws.{Natural, left-shift, right-shift}
-use Rattle.detector_boundary.proofs.Signed.{read, natural-read, half-is, half-fits, less-fits, more-fits, less-read, more-read, margin-fits, margin-read, range}
+use Rattle.detector_boundary.proofs.Signed.{read, natural-read, half-is, half-fits, less-fits, more-fits, less-read, more-read, margin-fits, margin-read, margin-range, size-range}
 use Rattle.detector_boundary.proofs.calculate_simple_boundary.Statement.{statement}
 use Rattle.detector_boundary.proofs.calculate_simple_boundary.Tie as tie
 
@@ -24,12 +26,24 @@ half w = div binary32 w (ofBits binary32 0x4000_0000)
 abbrev part : Float → Float
 part w = mul binary32 w (ofBits binary32 0x3cf5_c28f)
 
-module _ {width height x y : ℕ} (p : Pixel width height x y) where
+module _ {shape : Shape} {center : PointU} (p : Centered shape center) where
+  abbrev x : ℕ
+  x = center .x
+
+  abbrev y : ℕ
+  y = center .y
+
+  abbrev width : ℕ
+  width = shape .width
+
+  abbrev height : ℕ
+  height = shape .height
+
   column : x ≤ 2048
-  column = omega (arith, p .column, p .narrow)
+  column = omega (arith, p .inside .column, p .limits .width-most)
 
   row : y ≤ 2048
-  row = omega (arith, p .row, p .low)
+  row = omega (arith, p .inside .row, p .limits .height-most)
 
   -- ---- left and right
   module _ (across : ℕ) (few : across ≤ 32768) (w : Float) (v : ℤ) (e : w ≡ ofInt binary32 (pos across)) where
@@ -51,7 +65,7 @@ module _ {width height x y : ℕ} (p : Pixel width height x y) where
           → r ≡ clamped (pos x -ℤ leftShift across) 0 (width - 33)
       left-is g =
           g
-          ∙ ap₂ (λ (z i : ℤ). clamped z 0 (natAbs i)) (less-read x _ v column left-few left-read) (margin-read width 32 (p .wide) (p .narrow))
+          ∙ ap₂ (λ (z i : ℤ). clamped z 0 (natAbs i)) (less-read x _ v column left-few left-read) (margin-read width 33 (omega arith) (p .limits .width-least) (p .limits .width-most))
           ∙ ap (λ (z : ℤ). clamped (pos x -ℤ z) 0 (width - 33)) (sym (left .is))
 
     module _ (f : v ≡ toSigned 31 (add binary32 (half w) (part w))) where
@@ -71,7 +85,7 @@ module _ {width height x y : ℕ} (p : Pixel width height x y) where
       right-is : {r : ℕ} → r ≡ clamped (read (toZ w32 x +ℤ read v)) 33 (natAbs (toZ w32 width)) → r ≡ clamped (pos x +ℤ rightShift across) 33 width
       right-is g =
           g
-          ∙ ap₂ (λ (z i : ℤ). clamped z 33 (natAbs i)) (more-read x _ v column right-few right-read) (toZ-pos w32 width (omega (arith, p .narrow)))
+          ∙ ap₂ (λ (z i : ℤ). clamped z 33 (natAbs i)) (more-read x _ v column right-few right-read) (toZ-pos w32 width (omega (arith, p .limits .width-most)))
           ∙ ap (λ (z : ℤ). clamped (pos x +ℤ z) 33 width) (sym (right .is))
 
   -- ---- top and bottom
@@ -94,20 +108,20 @@ module _ {width height x y : ℕ} (p : Pixel width height x y) where
     top-is : {r : ℕ} → r ≡ clamped (read (toZ w32 y +ℤ read upDown)) 33 (natAbs (toZ w32 height)) → r ≡ clamped (pos y +ℤ pos (tall / 2)) 33 height
     top-is g =
         g
-        ∙ ap₂ (λ (z i : ℤ). clamped z 33 (natAbs i)) (more-read y _ upDown row half-few half-read) (toZ-pos w32 height (omega (arith, p .low)))
+        ∙ ap₂ (λ (z i : ℤ). clamped z 33 (natAbs i)) (more-read y _ upDown row half-few half-read) (toZ-pos w32 height (omega (arith, p .limits .height-most)))
 
     bottom-is : {r : ℕ} → r ≡ clamped (read (toZ w32 y -ℤ read upDown)) 0 (natAbs (read (toZ w32 height -ℤ pos 30)))
         → r ≡ clamped (pos y -ℤ pos (tall / 2)) 0 (height - 30)
     bottom-is g =
         g
-        ∙ ap₂ (λ (z i : ℤ). clamped z 0 (natAbs i)) (less-read y _ upDown row half-few half-read) (margin-read height 29 (omega (arith, p .high)) (p .low))
+        ∙ ap₂ (λ (z i : ℤ). clamped z 0 (natAbs i)) (less-read y _ upDown row half-few half-read) (margin-read height 30 (omega arith) (p .limits .height-least) (p .limits .height-most))
 
 -- ---- the needs
 cast-up-down-shift : tie.Need-cast-up-down-shift
 cast-up-down-shift c = search needs
 
 div-up-down-shift : tie.Need-div-up-down-shift
-div-up-down-shift c = (lit< tt, half-fits (c .before .args .size .height) (c .before .pre .1 .1))
+div-up-down-shift c = (lit< tt, half-fits (c .before .args .size .height) (c .before .pre .2))
 
 nearest-u32-to-f32-requires : tie.Need-nearest-u32-to-f32-requires
 nearest-u32-to-f32-requires c κs = search needs
@@ -122,61 +136,55 @@ cast-clamp : tie.Need-cast-clamp
 cast-clamp c = search needs
 
 sub-clamp : tie.Need-sub-clamp
-sub-clamp c =
-    let s = c .before .before .before .before in
-    left-fits (s .pre .0) _ (s .pre .1 .0) _ _ (c .before .before .nearest-u32-to-f32 .ensures) (c .before .saturating-f32-to-i32 .ensures)
+sub-clamp c = search left-fits
 
 cast-clamp-2 : tie.Need-cast-clamp-2
 cast-clamp-2 c = search needs
 
 sub-clamp-2 : tie.Need-sub-clamp-2
-sub-clamp-2 c = let p = c .before .before .before .before .pre .0 in margin-fits _ 32 (p .wide) (p .narrow)
+sub-clamp-2 c = search (margin-fits, needs)
 
 clamp-requires : tie.Need-clamp-requires
-clamp-requires c κs = let p = c .before .before .before .before .pre .0 in range (margin-read _ 32 (p .wide) (p .narrow)) (omega arith)
+clamp-requires c κs = search (margin-range, needs)
 
 cast-clamp-3 : tie.Need-cast-clamp-3
 cast-clamp-3 c = search needs
 
 add-clamp : tie.Need-add-clamp
-add-clamp c =
-    let s = c .before .before .before .before .before in
-    right-fits (s .pre .0) _ (s .pre .1 .0) _ _ (c .before .before .before .nearest-u32-to-f32 .ensures) (c .before .saturating-f32-to-i322 .ensures)
+add-clamp c = search right-fits
 
 cast-clamp-4 : tie.Need-cast-clamp-4
 cast-clamp-4 c = search needs
 
 clamp-requires-2 : tie.Need-clamp-requires-2
-clamp-requires-2 c κs = let p = c .before .before .before .before .before .pre .0 in range (toZ-pos w32 _ (omega (arith, p .narrow))) (p .wide)
+clamp-requires-2 c κs = search (size-range, needs)
 
 cast-clamp-5 : tie.Need-cast-clamp-5
 cast-clamp-5 c = search needs
 
 add-clamp-2 : tie.Need-add-clamp-2
-add-clamp-2 c = let s = c .before .before .before .before .before .before in top-fits (s .pre .0) _ (s .pre .1 .1)
+add-clamp-2 c = search top-fits
 
 cast-clamp-6 : tie.Need-cast-clamp-6
 cast-clamp-6 c = search needs
 
 clamp-requires-3 : tie.Need-clamp-requires-3
-clamp-requires-3 c κs = let p = c .before .before .before .before .before .before .pre .0 in range (toZ-pos w32 _ (omega (arith, p .low))) (p .high)
+clamp-requires-3 c κs = search (size-range, needs)
 
 cast-clamp-7 : tie.Need-cast-clamp-7
 cast-clamp-7 c = search needs
 
 sub-clamp-3 : tie.Need-sub-clamp-3
-sub-clamp-3 c = let s = c .before .before .before .before .before .before .before in bottom-fits (s .pre .0) _ (s .pre .1 .1)
+sub-clamp-3 c = search bottom-fits
 
 cast-clamp-8 : tie.Need-cast-clamp-8
 cast-clamp-8 c = search needs
 
 sub-clamp-4 : tie.Need-sub-clamp-4
-sub-clamp-4 c = let p = c .before .before .before .before .before .before .before .pre .0 in margin-fits _ 29 (omega (arith, p .high)) (p .low)
+sub-clamp-4 c = search (margin-fits, needs)
 
 clamp-requires-4 : tie.Need-clamp-requires-4
-clamp-requires-4 c κs =
-    let p = c .before .before .before .before .before .before .before .pre .0 in
-    range (margin-read _ 29 (omega (arith, p .high)) (p .low)) (omega arith)
+clamp-requires-4 c κs = search (margin-range, needs)
 
 same-boundary : {l r t b l′ r′ t′ b′ : ℕ} → l ≡ l′ → r ≡ r′ → t ≡ t′ → b ≡ b′
     → _≡_ {A = Boundary} (record { left = l; right = r; top = t; bottom = b }) (record { left = l′; right = r′; top = t′; bottom = b′ })
@@ -184,15 +192,7 @@ same-boundary p q r s = cc
 
 returns : tie.Need-returns
 unfolding boundaryOf
-returns c =
-    let shifts = c .before .before .before .before in
-    let w = shifts .before .before .nearest-u32-to-f32 .ensures in
-    let s = shifts .before .before .before .before in
-    same-boundary
-    (left-is (s .pre .0) _ (s .pre .1 .0) _ _ w (shifts .before .saturating-f32-to-i32 .ensures) (c .before .before .before .clamp .ensures))
-    (right-is (s .pre .0) _ (s .pre .1 .0) _ _ w (shifts .saturating-f32-to-i322 .ensures) (c .before .before .clamp2 .ensures))
-    (top-is (s .pre .0) _ (s .pre .1 .1) (c .before .clamp3 .ensures))
-    (bottom-is (s .pre .0) _ (s .pre .1 .1) (c .clamp4 .ensures))
+returns c = same-boundary (search left-is) (search right-is) (search top-is) (search bottom-is)
 
 pub calculate-simple-boundary-spec : {M : Type 1} → statement M
 calculate-simple-boundary-spec =

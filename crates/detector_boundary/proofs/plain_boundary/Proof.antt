@@ -14,7 +14,7 @@ calculate-simple-boundary-requires c κs =
     let s = c .before in
     let radius = s .args .radius in
     let size = subst (Sized radius) (sym (c .guess-barcode-size .ensures)) (plain-sized radius (s .pre .1)) in
-    (s .pre .0, (omega (arith, size .narrow), omega (arith, size .low)))
+    (s .pre .0, omega (arith, size .narrow), omega (arith, size .low))
 
 returns : tie.Need-returns
 returns c = cc

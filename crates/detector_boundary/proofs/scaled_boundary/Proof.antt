@@ -13,8 +13,8 @@ calculate-simple-boundary-requires : tie.Need-calculate-simple-boundary-requires
 calculate-simple-boundary-requires c κs =
     let s = c .before in
     let radius = s .args .radius in
-    let size = subst (Sized radius) (sym (c .guess-barcode-size-general .ensures)) (scaled-sized radius (s .args .scale) (s .pre .1 .0) (s .pre .1 .1)) in
-    (s .pre .0, (omega (arith, size .narrow), omega (arith, size .low)))
+    let size = subst (Sized radius) (sym (c .guess-barcode-size-general .ensures)) (scaled-sized radius (s .args .scale) (s .pre .1) (s .pre .2)) in
+    (s .pre .0, omega (arith, size .narrow), omega (arith, size .low))
 
 returns : tie.Need-returns
 returns c = cc

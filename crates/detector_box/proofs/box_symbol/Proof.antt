@@ -1,44 +1,46 @@
 -- `detector_box::box_symbol` meets its contract: the scales' run, and what the other calls ensure. Assumes nothing.
-use Prim.Native.Nat.{ℕ, _≤_, _<_}
+use Prim.Native.Nat.{ℕ, _<_}
 use native.Mathlib.Omega.{arith}
 use mathlib.Core.List.{List}
 use mathlib.Core.Path.{_≡_}
+use lib.Ieee.{Float}
 use Rattle.reads.specs.Runs.{Ran}
 use Rattle.reads.specs.RunsLaws.{ran-bind, ran-is, always-ran}
+use Rattle.bit_matrix.specs.declared.Shape.{Shape}
 use Rattle.rxing_result_point.specs.declared.Point.{Point}
-use Rattle.rxing_result_point.specs.declared.PointU.{PointU}
 use Rattle.detector_boundary.specs.declared.Boundary.{Boundary}
 use Rattle.detector_boundary.specs.Boundary.{plainBoundary}
-use Rattle.detector_boundary.specs.Within.{Placed, plain-placed}
+use Rattle.detector_boundary.specs.InImage.{Placed, plain-placed}
+use Rattle.detector_circle.specs.declared.Circle.{Circle}
 use Rattle.detector_turn.specs.declared.Turn.{Turn}
 use Rattle.detector_turn.specs.Outcomes.{classOf}
-use Rattle.detector_turn.specs.Scales.{ImageBounds, Inner, tryScales}
-use Rattle.detector_turn.specs.ScalesLaws.{pixel-of, ended}
+use Rattle.detector_turn.specs.Scales.{LentCircle, tryScales}
+use Rattle.detector_turn.specs.ScalesLaws.{centered-of, ended}
 use Rattle.detector_box.specs.Boxes.{cornersOf, symbolAt}
 use borrow.Author.Needs.{needs}
 use Rattle.detector_box.proofs.box_symbol.Statement.{statement}
 use Rattle.detector_box.proofs.box_symbol.Tie as tie
 
-placed : {size rowWords width height : ℕ} (radius : ℕ) {p : PointU} {b : Boundary} → ImageBounds size rowWords width height → Inner width height p
-    → 6 ≤ radius → radius < 2048 → b ≡ plainBoundary width height (p .x) (p .y) radius → Placed b
-placed radius image inner least most e = rw e (plain-placed (pixel-of image inner) least most)
+placed : {shape : Shape} {words marks : List ℕ} {circle : Circle} {table : List Float} {b : Boundary} → LentCircle shape words marks circle table
+    → b ≡ plainBoundary shape (circle .center) (circle .radius) → Placed b
+placed lent e = rw e (plain-placed (centered-of lent) (lent .least) (lent .most))
 
-low : {words marks after : List ℕ} (rowWords size width height radius : ℕ) (center : PointU) {turn : Turn} → Inner width height center
-    → Ran (tryScales rowWords size width height radius center) words marks turn after → turn .degree < 360
-low rowWords size width height radius center inner ran =
-    let last = always-ran (ended rowWords size width height radius center inner) ran in
+low : {shape : Shape} {words marks after : List ℕ} {circle : Circle} {table : List Float} {turn : Turn} → LentCircle shape words marks circle table
+    → Ran (tryScales shape circle) words marks turn after → turn .degree < 360
+low {shape} {circle = circle} lent ran =
+    let last = always-ran (ended shape circle (lent .lent .inside)) ran in
     omega (arith, last .low)
 
-boxed : {words marks after : List ℕ} (rowWords size width height radius : ℕ) (center : PointU) {b : Boundary} {turn : Turn} {corners : List Point} {class : ℕ}
-    → b ≡ plainBoundary width height (center .x) (center .y) radius
-    → Ran (tryScales rowWords size width height radius center) words marks turn after
-    → corners ≡ cornersOf b turn → class ≡ classOf (turn .degree)
-    → Ran (symbolAt rowWords size width height radius center) words marks (record { turn = turn; corners = corners; class = class }) after
+boxed : {words marks after : List ℕ} (shape : Shape) (circle : Circle) {b : Boundary} {turn : Turn} {corners : List Point} {class : ℕ}
+    → b ≡ plainBoundary shape (circle .center) (circle .radius)
+    → Ran (tryScales shape circle) words marks turn after
+    → corners ≡ cornersOf b turn → class ≡ classOf turn
+    → Ran (symbolAt shape circle) words marks (record { turn = turn; corners = corners; class = class }) after
 unfolding symbolAt
-boxed rowWords size width height radius center e ran f g = ran-bind _ ran (ran-is (rw (f, g, e)))
+boxed shape circle e ran f g = ran-bind _ ran (ran-is (rw (f, g, e)))
 
 plain-boundary-requires : tie.Need-plain-boundary-requires
-plain-boundary-requires c κs = search (needs, pixel-of)
+plain-boundary-requires c κs = search (needs, centered-of)
 
 try-scales-requires : tie.Need-try-scales-requires
 try-scales-requires c κs = search needs

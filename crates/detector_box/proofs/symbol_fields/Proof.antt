@@ -57,17 +57,26 @@ array-copy-out-store-corner c = search needs
 store-corner-requires : tie.Need-store-corner-requires
 store-corner-requires c κs = search needs
 
+add-store-corner : tie.Need-add-store-corner
+add-store-corner c = search needs
+
 array-copy-out-store-corner-2 : tie.Need-array-copy-out-store-corner-2
 array-copy-out-store-corner-2 c = search needs
 
 store-corner-requires-2 : tie.Need-store-corner-requires-2
 store-corner-requires-2 c κs = search needs
 
+add-store-corner-2 : tie.Need-add-store-corner-2
+add-store-corner-2 c = search needs
+
 array-copy-out-store-corner-3 : tie.Need-array-copy-out-store-corner-3
 array-copy-out-store-corner-3 c = search needs
 
 store-corner-requires-3 : tie.Need-store-corner-requires-3
 store-corner-requires-3 c κs = search needs
+
+add-store-corner-3 : tie.Need-add-store-corner-3
+add-store-corner-3 c = search needs
 
 array-copy-out-store-corner-4 : tie.Need-array-copy-out-store-corner-4
 array-copy-out-store-corner-4 c = search needs
@@ -102,10 +111,13 @@ symbol-fields-spec =
     element-write-fields-5
     array-copy-out-store-corner
     store-corner-requires
+    add-store-corner
     array-copy-out-store-corner-2
     store-corner-requires-2
+    add-store-corner-2
     array-copy-out-store-corner-3
     store-corner-requires-3
+    add-store-corner-3
     array-copy-out-store-corner-4
     store-corner-requires-4
     element-write-fields-6

@@ -6,7 +6,7 @@ use Rattle.rxing_result_point.specs.declared.Point.{Point}
 use Rattle.rxing_result_point.specs.declared.PointU.{PointU}
 use Rattle.rxing_result_point.specs.Points.{getPoint}
 use Rattle.detector_boundary.specs.declared.Boundary.{Boundary}
-use Rattle.detector_boundary.specs.Within.{Placed}
+use Rattle.detector_boundary.specs.InImage.{Placed}
 use Rattle.detector_box.specs.Boxes.{turnedCorners}
 use Rattle.detector_box.specs.BoxesLaws.{whole-corners}
 use borrow.Author.Needs.{needs}

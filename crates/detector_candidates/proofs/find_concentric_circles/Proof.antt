@@ -1,6 +1,6 @@
 -- `detector_candidates::find_concentric_circles` meets its contract. The invariant is `Sweeping`: with some fuel, what is left of the sweep ends as the whole
 -- does, and only the candidates so far were written. The measure is the rows left. Assumes nothing.
-use Prim.Native.Nat.{ℕ, zero, suc, _+_, _-_, _*_, _^_, _≤_, _<_}
+use Prim.Native.Nat.{ℕ, zero, suc, _+_, _-_, _*_, _≤_, _<_}
 use mathlib.Core.Path.{_≡_, refl, sym, _∙_}
 use mathlib.Core.Bool.{cond}
 use mathlib.Core.List.{List}
@@ -14,40 +14,33 @@ use Rattle.reads.specs.Runs.{valueOf, Ran, Resumes}
 use Rattle.reads.specs.RunsLaws.{ran-done, always-ran, resumes-start, resumes-step, resumes-then, resumes-else, resumes-end}
 use Rattle.records.specs.Records.{Record, rows}
 use Rattle.records.specs.RecordsLaws.{length-rows}
+use Rattle.bit_matrix.specs.declared.Shape.{Shape}
+use Rattle.bit_matrix.specs.Shape.{Image}
 use Rattle.detector_candidates.specs.Candidates.{rowFrom, rowsBy, rowsFrom, concentricCirclesBy, concentricCircles, Room, Listed}
-use Rattle.detector_candidates.specs.CandidatesLaws.{Searchable, row-more}
+use Rattle.bit_matrix.specs.declared.Shape.{Shape}
+use Rattle.bit_matrix.specs.Shape.{Image}
+use Rattle.detector_candidates.specs.CandidatesLaws.{row-more}
 use Rattle.detector_candidates.proofs.Storing.{stored-all, stored-rows, stored-rest, stored-since}
 use Rattle.detector_candidates.proofs.find_concentric_circles.Statement.{statement}
 use Rattle.detector_candidates.proofs.find_concentric_circles.Tie as tie
 
-record Sweeping (words marks₀ circles₀ : List ℕ) (rowWords width height capacity : ℕ) (marks circles : List ℕ) (found row : ℕ) : Type 0 where
+record Sweeping (words marks₀ records₀ : List ℕ) (shape : Shape) (capacity : ℕ) (marks records : List ℕ) (found row : ℕ) : Type 0 where
   fuel : ℕ
-  sized : length marks ≡ length words
-  small : rowWords < 2 ^ 32
-  wide : 12 < width
-  narrow : width ≤ 2048
-  high : 12 < height
-  low : height ≤ 2048
-  room : Room capacity circles found
-  same : length circles ≡ length circles₀
-  fueled : height - row ≤ fuel
-  rest : drop (40 * found) circles ≡ drop (40 * found) circles₀
+  image : Image shape words marks
+  room : Room capacity records found
+  same : length records ≡ length records₀
+  fueled : shape .height - row ≤ fuel
+  rest : drop (40 * found) records ≡ drop (40 * found) records₀
   resumes : Resumes words
-      (rowsFrom rowWords (length words) width height capacity fuel row (rows found circles)) marks
-      (concentricCircles rowWords (length words) width height capacity) marks₀
+      (rowsFrom shape capacity fuel row (rows found records)) marks
+      (concentricCircles shape capacity) marks₀
 
-begins : {words marks circles : List ℕ} {rowWords width height capacity : ℕ} → length marks ≡ length words → rowWords < 2 ^ 32
-    → 12 < width → width ≤ 2048 → 12 < height → height ≤ 2048 → Room capacity circles 0
-    → Sweeping words marks circles rowWords width height capacity marks circles 0 6
+begins : {words marks records : List ℕ} {shape : Shape} {capacity : ℕ} → Image shape words marks → Room capacity records 0
+    → Sweeping words marks records shape capacity marks records 0 6
 unfolding concentricCirclesBy rows
-begins {height = height} sized small wide narrow high low room = record {
-  fuel = height;
-  sized = sized;
-  small = small;
-  wide = wide;
-  narrow = narrow;
-  high = high;
-  low = low;
+begins {shape = shape} image room = record {
+  fuel = shape .height;
+  image = image;
   room = room;
   same = refl;
   fueled = omega arith;
@@ -55,36 +48,33 @@ begins {height = height} sized small wide narrow high low room = record {
   resumes = resumes-start;
 }
 
-module _ {words marks₀ circles₀ marks circles : List ℕ} {rowWords width height capacity found row : ℕ}
-    (so-far : Sweeping words marks₀ circles₀ rowWords width height capacity marks circles found row) where
+module _ {words marks₀ records₀ marks records : List ℕ} {shape : Shape} {capacity found row : ℕ}
+    (so-far : Sweeping words marks₀ records₀ shape capacity marks records found row) where
   abbrev whole : Reads (List Record)
-  whole = concentricCircles rowWords (length words) width height capacity
-
-  at : row < height - 6 → Searchable width height row 6
-  at h = record { narrow = so-far .narrow; low = so-far .low; above = omega arith; left = omega arith; right = omega (arith, so-far .wide) }
+  whole = concentricCircles shape capacity
 
   -- past the last row
-  past : height - 6 ≤ row → Listed whole capacity words marks₀ circles₀ found marks circles
+  past : shape .height - 6 ≤ row → Listed whole capacity words marks₀ records₀ found marks records
   unfolding rowsBy
   past h = listed (go (so-far .fuel) (so-far .resumes))
     where
-      listed : Ran whole words marks₀ (rows found circles) marks → Listed whole capacity words marks₀ circles₀ found marks circles
+      listed : Ran whole words marks₀ (rows found records) marks → Listed whole capacity words marks₀ records₀ found marks records
       listed end = record {
         stored = rw (← end .result)
-            (stored-all (rows found circles) (sym (length-rows found circles)) (so-far .room .few) (record { records = refl; rest = so-far .rest }));
+            (stored-all (rows found records) (sym (length-rows found records)) (so-far .room .few) (record { records = refl; rest = so-far .rest }));
         marked = end .marked;
       }
 
-      go : (n : ℕ) → Resumes words (rowsFrom rowWords (length words) width height capacity n row (rows found circles)) marks whole marks₀
-          → Ran whole words marks₀ (rows found circles) marks
+      go : (n : ℕ) → Resumes words (rowsFrom shape capacity n row (rows found records)) marks whole marks₀
+          → Ran whole words marks₀ (rows found records) marks
       go zero resumes = resumes-end (ran-done _) resumes
-      go (suc n) resumes = resumes-end (ran-done _) (resumes-else _ _ (le-ltb row (height - 6) h) resumes)
+      go (suc n) resumes = resumes-end (ran-done _) (resumes-else _ _ (le-ltb row (shape .height - 6) h) resumes)
 
   -- a row
-  module _ (h : row < height - 6) {found′ : ℕ} {marks′ circles′ : List ℕ}
-      (listed : Listed (rowFrom rowWords (length words) width height capacity width row 6 (rows found circles)) capacity words marks circles found′ marks′ circles′) where
+  module _ (h : row < shape .height - 6) {found′ : ℕ} {marks′ records′ : List ℕ}
+      (listed : Listed (rowFrom shape capacity (shape .width) row 6 (rows found records)) capacity words marks records found′ marks′ records′) where
     abbrev step : Reads (List Record)
-    step = rowFrom rowWords (length words) width height capacity width row 6 (rows found circles)
+    step = rowFrom shape capacity (shape .width) row 6 (rows found records)
 
     abbrev now : List Record
     now = valueOf step words
@@ -94,42 +84,38 @@ module _ {words marks₀ circles₀ marks circles : List ℕ} {rowWords width he
 
     more : found ≤ found′
     more =
-        let grown = always-ran (row-more rowWords (length words) width height capacity width row 6 (rows found circles)) ran in
-        omega (arith, listed .stored .counted, length-rows found circles, grown)
+        let grown = always-ran (row-more shape capacity (shape .width) row 6 (rows found records)) ran in
+        omega (arith, listed .stored .counted, length-rows found records, grown)
 
     -- a turn has fuel
     record Turned : Type 0 where
       fuel : ℕ
-      fueled : height - row ≤ suc fuel
-      resumes : Resumes words (cond (ltb capacity (length now)) (done now) (rowsFrom rowWords (length words) width height capacity fuel (row + 2) now)) marks′ whole marks₀
+      fueled : shape .height - row ≤ suc fuel
+      resumes : Resumes words (cond (ltb capacity (length now)) (done now) (rowsFrom shape capacity fuel (row + 2) now)) marks′ whole marks₀
 
     turned : Turned
     unfolding rowsBy
     turned = go (so-far .fuel) (so-far .fueled) (so-far .resumes)
       where
-        go : (n : ℕ) → height - row ≤ n
-            → Resumes words (rowsFrom rowWords (length words) width height capacity n row (rows found circles)) marks whole marks₀ → Turned
+        go : (n : ℕ) → shape .height - row ≤ n
+            → Resumes words (rowsFrom shape capacity n row (rows found records)) marks whole marks₀ → Turned
         go zero enough resumes = absurd (omega arith)
-        go (suc n) enough resumes = record { fuel = n; fueled = enough; resumes = resumes-step _ ran (resumes-then _ _ (lt-ltb row (height - 6) h) resumes) }
+        go (suc n) enough resumes =
+            record { fuel = n; fueled = enough; resumes = resumes-step _ ran (resumes-then _ _ (lt-ltb row (shape .height - 6) h) resumes) }
 
-    at-full : capacity < found′ → Listed whole capacity words marks₀ circles₀ found′ marks′ circles′
+    at-full : capacity < found′ → Listed whole capacity words marks₀ records₀ found′ marks′ records′
     at-full full =
         let most : capacity < length now = omega (arith, listed .stored .counted) in
         let end : Ran whole words marks₀ now marks′ = resumes-end (ran-done _) (resumes-then _ _ (lt-ltb capacity _ most) (turned .resumes)) in
         record { stored = rw (← end .result) (stored-since (so-far .rest) (so-far .room .few) more (listed .stored)); marked = end .marked }
 
-    onward : found′ ≤ capacity → length marks′ ≡ length marks → length circles′ ≡ length circles
-        → Sweeping words marks₀ circles₀ rowWords width height capacity marks′ circles′ found′ (row + 2)
+    onward : found′ ≤ capacity → length marks′ ≡ length marks → length records′ ≡ length records
+        → Sweeping words marks₀ records₀ shape capacity marks′ records′ found′ (row + 2)
     onward few long same =
         let most : length now ≤ capacity = omega (arith, listed .stored .counted) in
         record {
           fuel = turned .fuel;
-          sized = long ∙ so-far .sized;
-          small = so-far .small;
-          wide = so-far .wide;
-          narrow = so-far .narrow;
-          high = so-far .high;
-          low = so-far .low;
+          image = record { limits = so-far .image .limits; stored = so-far .image .stored; sized = long ∙ so-far .image .sized };
           room = record { few = few; most = so-far .room .most; held = rw same (so-far .room .held) };
           same = same ∙ so-far .same;
           fueled = omega (arith, turned .fueled);
@@ -138,20 +124,20 @@ module _ {words marks₀ circles₀ marks circles : List ℕ} {rowWords width he
         }
 
 abbrev Inv-loop : tie.InvT-loop
-Inv-loop words marks₀ circles₀ rowWords width height capacity found₀ row₀ marks circles found row =
-    Sweeping words marks₀ circles₀ rowWords width height capacity marks circles found row
+Inv-loop words marks₀ records₀ shape capacity found₀ row₀ marks records found row =
+    Sweeping words marks₀ records₀ shape capacity marks records found row
 
 abbrev μ-loop : tie.MeasureT-loop
-μ-loop words marks₀ circles₀ rowWords width height capacity found₀ row₀ marks circles found row = height - row
+μ-loop words marks₀ records₀ shape capacity found₀ row₀ marks records found row = shape .height - row
 
 loop-holds : tie.Need-loop-holds Inv-loop μ-loop
 loop-holds c = search begins
 
-sub-loop : tie.Need-sub-loop Inv-loop μ-loop
-sub-loop c = search needs
+sub-if1 : tie.Need-sub-if1 Inv-loop μ-loop
+sub-if1 c = search needs
 
 sweep-row-requires : tie.Need-sweep-row-requires Inv-loop μ-loop
-sweep-row-requires c κs = search (at, needs)
+sweep-row-requires c κs = search needs
 
 same-length : tie.Need-same-length Inv-loop μ-loop
 same-length c = search needs
@@ -187,7 +173,7 @@ find-concentric-circles-spec =
     Inv-loop
     μ-loop
     loop-holds
-    sub-loop
+    sub-if1
     sweep-row-requires
     same-length
     same-length-2

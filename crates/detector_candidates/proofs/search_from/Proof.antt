@@ -6,29 +6,32 @@ use mathlib.Core.Bool.{true, false}
 use mathlib.Core.List.{List}
 use borrow.Author.Needs.{needs}
 use borrow.Author.Tests.{not-true, not-false}
-use lib.ListN.{length}
 use Rattle.reads.specs.Runs.{Ran}
 use Rattle.reads.specs.RunsLaws.{ran-is, ran-bind, ran-then, ran-else, always-ran}
+use Rattle.bit_matrix.specs.declared.Shape.{Shape}
+use Rattle.bit_matrix.specs.Shape.{Limits}
 use Rattle.detector_rows.specs.Rows.{nextBullseye}
+use Rattle.bit_matrix.specs.declared.Shape.{Shape}
+use Rattle.bit_matrix.specs.Shape.{Limits}
 use Rattle.detector_rows.specs.RowsLaws.{Closed, always-closed}
 use Rattle.detector_rows.specs.declared.Bullseye.{Bullseye}
 use Rattle.detector_columns.specs.Columns.{verifyBullseyeVertical}
 use Rattle.detector_columns.specs.declared.Verified.{Verified}
-use Rattle.detector_candidates.specs.Candidates.{nothing, passed, failed, searchBy, searchFrom}
-use Rattle.detector_candidates.specs.CandidatesLaws.{Searchable, radius-fits}
+use Rattle.detector_candidates.specs.Candidates.{nothing, passed, failed, Searchable, searchBy, searchFrom}
+use Rattle.detector_candidates.specs.CandidatesLaws.{radius-fits}
 use Rattle.detector_candidates.specs.declared.Searched.{Searched}
 use Rattle.detector_candidates.proofs.search_from.Statement.{statement}
 use Rattle.detector_candidates.proofs.search_from.Tie as tie
 
-module _ {words marks m₁ : List ℕ} (rowWords width height row column : ℕ) {eye : Bullseye}
-    (ran : Ran (nextBullseye rowWords (length words) width row column) words marks eye m₁) where
-  ends : {s : Searched} → eye .found ≡ false → s ≡ nothing column → Ran (searchFrom rowWords (length words) width height row column) words marks s m₁
+module _ {words marks m₁ : List ℕ} (shape : Shape) (row column : ℕ) {eye : Bullseye}
+    (ran : Ran (nextBullseye shape row column) words marks eye m₁) where
+  ends : {s : Searched} → eye .found ≡ false → s ≡ nothing column → Ran (searchFrom shape row column) words marks s m₁
   unfolding searchBy
   ends e made = ran-bind _ ran (ran-else _ _ e (ran-is made))
 
-  module _ (at : Searchable width height row column) (found : eye .found ≡ true) where
-    closed : Closed column width eye
-    closed = always-ran (always-closed rowWords (length words) width row column) ran found
+  module _ (limits : Limits shape) (at : Searchable shape row column) (found : eye .found ≡ true) where
+    closed : Closed column (shape .width) eye
+    closed = always-ran (always-closed shape row column) ran found
 
     radius-left : eye .radius ≤ eye .center
     radius-left = radius-fits closed (omega (arith, at .left))
@@ -37,20 +40,20 @@ module _ {words marks m₁ : List ℕ} (rowWords width height row column : ℕ) 
     positive = omega (arith, radius-left, closed .half, closed .eleven-pixels)
 
     closing-fits : eye .center + eye .radius < 2 ^ 32
-    closing-fits = omega (arith, at .narrow, closed .before-limit)
+    closing-fits = omega (arith, limits .width-most, closed .before-limit)
 
     next-fits : eye .center + 1 < 2 ^ 32
-    next-fits = omega (arith, at .narrow, closed .before-limit)
+    next-fits = omega (arith, limits .width-most, closed .before-limit)
 
   module _ (found : eye .found ≡ true) {seen : Verified} {m₂ : List ℕ}
-      (look : Ran (verifyBullseyeVertical rowWords (length words) height row (eye .center)) words m₁ seen m₂) where
+      (look : Ran (verifyBullseyeVertical shape row (eye .center)) words m₁ seen m₂) where
     passes : {s : Searched} → seen .good ≡ true → s ≡ passed row eye (seen .buckets)
-        → Ran (searchFrom rowWords (length words) width height row column) words marks s m₂
+        → Ran (searchFrom shape row column) words marks s m₂
     unfolding searchBy
     passes good made = ran-bind _ ran (ran-then _ _ found (ran-bind _ look (ran-then _ _ good (ran-is made))))
 
     fails : {s : Searched} → seen .good ≡ false → s ≡ failed column eye
-        → Ran (searchFrom rowWords (length words) width height row column) words marks s m₂
+        → Ran (searchFrom shape row column) words marks s m₂
     unfolding searchBy
     fails bad made = ran-bind _ ran (ran-then _ _ found (ran-bind _ look (ran-else _ _ bad (ran-is made))))
 

@@ -1,7 +1,7 @@
 -- `detector_candidates::sweep_row` meets its contract. The invariant is `Sweeping`: with some fuel, what is left of the row ends as the whole does, and only
 -- the candidates so far were written. That a turn moves to the right, and so has fuel, is a fact of the definition of a search. The measure is the columns
 -- left. Assumes nothing.
-use Prim.Native.Nat.{ℕ, zero, suc, _-_, _*_, _^_, _≤_, _<_}
+use Prim.Native.Nat.{ℕ, zero, suc, _-_, _*_, _≤_, _<_}
 use mathlib.Core.Path.{_≡_, refl, _∙_}
 use mathlib.Core.Bool.{Bool, true, false, cond, _||_}
 use mathlib.Core.List.{List}
@@ -15,34 +15,33 @@ use Rattle.reads.specs.Runs.{Ran, Resumes}
 use Rattle.reads.specs.RunsLaws.{ran-done, always-ran, resumes-start, resumes-step, resumes-then, resumes-else, resumes-end}
 use Rattle.records.specs.Records.{Record, rows}
 use Rattle.records.specs.RecordsLaws.{length-rows}
-use Rattle.detector_candidates.specs.Candidates.{searchFrom, after, rowBy, rowFrom, Room, Stored, Listed}
-use Rattle.detector_candidates.specs.CandidatesLaws.{Searchable, FitSearch, search-fit, searchable-next, after-more}
+use Rattle.bit_matrix.specs.declared.Shape.{Shape}
+use Rattle.bit_matrix.specs.Shape.{Image}
+use Rattle.detector_candidates.specs.Candidates.{Searchable, searchFrom, after, rowBy, rowFrom, Room, Stored, Listed}
+use Rattle.detector_candidates.specs.CandidatesLaws.{FitSearch, search-fit, searchable-first, searchable-next, after-more}
 use Rattle.detector_candidates.specs.declared.Searched.{Searched}
 use Rattle.detector_candidates.proofs.Storing.{stored-rows, stored-rest, stored-since}
 use Rattle.detector_candidates.proofs.sweep_row.Statement.{statement}
 use Rattle.detector_candidates.proofs.sweep_row.Tie as tie
 
-record Sweeping (words marks₀ circles₀ : List ℕ) (rowWords width height capacity row found : ℕ) (marks circles : List ℕ) (count column : ℕ) : Type 0 where
+record Sweeping (words marks₀ records₀ : List ℕ) (shape : Shape) (capacity row found : ℕ) (marks records : List ℕ) (count column : ℕ) : Type 0 where
   fuel : ℕ
-  sized : length marks ≡ length words
-  small : rowWords < 2 ^ 32
-  at : Searchable width height row column
-  room : Room capacity circles count
-  same : length circles ≡ length circles₀
-  fueled : width - column ≤ fuel
-  rest : drop (40 * count) circles ≡ drop (40 * count) circles₀
+  image : Image shape words marks
+  at : Searchable shape row column
+  room : Room capacity records count
+  same : length records ≡ length records₀
+  fueled : shape .width - column ≤ fuel
+  rest : drop (40 * count) records ≡ drop (40 * count) records₀
   resumes : Resumes words
-      (rowFrom rowWords (length words) width height capacity fuel row column (rows count circles)) marks
-      (rowFrom rowWords (length words) width height capacity width row 6 (rows found circles₀)) marks₀
+      (rowFrom shape capacity fuel row column (rows count records)) marks
+      (rowFrom shape capacity (shape .width) row 6 (rows found records₀)) marks₀
 
-begins : {words marks circles : List ℕ} {rowWords width height capacity row found : ℕ} → length marks ≡ length words → rowWords < 2 ^ 32
-    → Searchable width height row 6 → Room capacity circles found
-    → Sweeping words marks circles rowWords width height capacity row found marks circles found 6
-begins {width = width} sized small at room = record {
-  fuel = width;
-  sized = sized;
-  small = small;
-  at = at;
+begins : {words marks records : List ℕ} {shape : Shape} {capacity row found : ℕ} → Image shape words marks → row < shape .height
+    → Room capacity records found → Sweeping words marks records shape capacity row found marks records found 6
+begins {shape = shape} image above room = record {
+  fuel = shape .width;
+  image = image;
+  at = searchable-first (image .limits) above;
   room = room;
   same = refl;
   fueled = omega arith;
@@ -50,31 +49,31 @@ begins {width = width} sized small at room = record {
   resumes = resumes-start;
 }
 
-module _ {words marks₀ circles₀ marks circles : List ℕ} {rowWords width height capacity row found count column : ℕ}
-    (so-far : Sweeping words marks₀ circles₀ rowWords width height capacity row found marks circles count column) where
+module _ {words marks₀ records₀ marks records : List ℕ} {shape : Shape} {capacity row found count column : ℕ}
+    (so-far : Sweeping words marks₀ records₀ shape capacity row found marks records count column) where
   abbrev whole : Reads (List Record)
-  whole = rowFrom rowWords (length words) width height capacity width row 6 (rows found circles₀)
+  whole = rowFrom shape capacity (shape .width) row 6 (rows found records₀)
 
   abbrev left : Searched → ℕ → Reads (List Record)
   left s n =
-      let now = after (rows count circles) s in
-      cond (s .ended || ltb capacity (length now)) (done now) (rowFrom rowWords (length words) width height capacity n row (s .column) now)
+      let now = after (rows count records) s in
+      cond (s .ended || ltb capacity (length now)) (done now) (rowFrom shape capacity n row (s .column) now)
 
   -- a search never starts at the limit
-  never : width - 6 ≤ column → Listed whole capacity words marks₀ circles₀ count marks circles
+  never : shape .width - 6 ≤ column → Listed whole capacity words marks₀ records₀ count marks records
   never h = absurd (omega (arith, so-far .at .right))
 
   -- a search, and its candidate appended
-  module _ {s : Searched} {marks′ : List ℕ} (ran : Ran (searchFrom rowWords (length words) width height row column) words marks s marks′)
-      {count′ : ℕ} {circles′ : List ℕ} (stored : Stored capacity circles (after (rows count circles) s) count′ circles′) where
-    fits : FitSearch width height column s
-    fits = always-ran (search-fit rowWords (length words) width height row column (so-far .at)) ran
+  module _ {s : Searched} {marks′ : List ℕ} (ran : Ran (searchFrom shape row column) words marks s marks′)
+      {count′ : ℕ} {records′ : List ℕ} (stored : Stored capacity records (after (rows count records) s) count′ records′) where
+    fits : FitSearch shape column s
+    fits = always-ran (search-fit shape row column (so-far .image .limits) (so-far .at)) ran
 
     more : count ≤ count′
-    more = omega (arith, stored .counted, after-more (rows count circles) s, length-rows count circles)
+    more = omega (arith, stored .counted, after-more (rows count records) s, length-rows count records)
 
     -- where the row ends
-    listed : Ran whole words marks₀ (after (rows count circles) s) marks′ → Listed whole capacity words marks₀ circles₀ count′ marks′ circles′
+    listed : Ran whole words marks₀ (after (rows count records) s) marks′ → Listed whole capacity words marks₀ records₀ count′ marks′ records′
     listed end = record {
       stored = rw (← end .result) (stored-since (so-far .rest) (so-far .room .few) more stored);
       marked = end .marked;
@@ -83,46 +82,45 @@ module _ {words marks₀ circles₀ marks circles : List ℕ} {rowWords width he
     -- a turn has fuel, since it starts left of the limit
     record Turned : Type 0 where
       fuel : ℕ
-      fueled : width - column ≤ suc fuel
+      fueled : shape .width - column ≤ suc fuel
       resumes : Resumes words (left s fuel) marks′ whole marks₀
 
     turned : Turned
     unfolding rowBy
     turned = go (so-far .fuel) (so-far .fueled) (so-far .resumes)
       where
-        go : (n : ℕ) → width - column ≤ n
-            → Resumes words (rowFrom rowWords (length words) width height capacity n row column (rows count circles)) marks whole marks₀ → Turned
+        go : (n : ℕ) → shape .width - column ≤ n
+            → Resumes words (rowFrom shape capacity n row column (rows count records)) marks whole marks₀ → Turned
         go zero enough resumes = absurd (omega (arith, so-far .at .right))
         go (suc n) enough resumes = record { fuel = n; fueled = enough; resumes = resumes-step _ ran resumes }
 
     -- the test that ends the row
     abbrev over : Bool
-    over = s .ended || ltb capacity (length (after (rows count circles) s))
+    over = s .ended || ltb capacity (length (after (rows count records) s))
 
-    ended : over ≡ true → Listed whole capacity words marks₀ circles₀ count′ marks′ circles′
+    ended : over ≡ true → Listed whole capacity words marks₀ records₀ count′ marks′ records′
     ended e = listed (resumes-end (ran-done _) (resumes-then _ _ e (turned .resumes)))
 
-    at-end : s .ended ≡ true → Listed whole capacity words marks₀ circles₀ count′ marks′ circles′
+    at-end : s .ended ≡ true → Listed whole capacity words marks₀ records₀ count′ marks′ records′
     at-end e = ended (rw e)
 
-    at-full : s .ended ≡ false → capacity < count′ → Listed whole capacity words marks₀ circles₀ count′ marks′ circles′
+    at-full : s .ended ≡ false → capacity < count′ → Listed whole capacity words marks₀ records₀ count′ marks′ records′
     at-full e h =
-        let most : capacity < length (after (rows count circles) s) = omega (arith, stored .counted) in
+        let most : capacity < length (after (rows count records) s) = omega (arith, stored .counted) in
         ended (rw (e, lt-ltb capacity _ most))
 
-    fewer : s .ended ≡ false → width - s .column < width - column
+    fewer : s .ended ≡ false → shape .width - s .column < shape .width - column
     fewer e = omega (arith, fits .onward .further e, fits .onward .inside e)
 
-    onward : s .ended ≡ false → count′ ≤ capacity → length marks′ ≡ length marks → length circles′ ≡ length circles
-        → Sweeping words marks₀ circles₀ rowWords width height capacity row found marks′ circles′ count′ (s .column)
+    onward : s .ended ≡ false → count′ ≤ capacity → length marks′ ≡ length marks → length records′ ≡ length records
+        → Sweeping words marks₀ records₀ shape capacity row found marks′ records′ count′ (s .column)
     onward e few long same =
-        let most : length (after (rows count circles) s) ≤ capacity = omega (arith, stored .counted) in
+        let most : length (after (rows count records) s) ≤ capacity = omega (arith, stored .counted) in
         let goes : over ≡ false = rw (e, le-ltb capacity _ most) in
-        let now : after (rows count circles) s ≡ rows count′ circles′ = stored-rows stored few in
+        let now : after (rows count records) s ≡ rows count′ records′ = stored-rows stored few in
         record {
           fuel = turned .fuel;
-          sized = long ∙ so-far .sized;
-          small = so-far .small;
+          image = record { limits = so-far .image .limits; stored = so-far .image .stored; sized = long ∙ so-far .image .sized };
           at = searchable-next (so-far .at) (fits .onward) e;
           room = record { few = few; most = so-far .room .most; held = rw same (so-far .room .held) };
           same = same ∙ so-far .same;
@@ -132,17 +130,17 @@ module _ {words marks₀ circles₀ marks circles : List ℕ} {rowWords width he
         }
 
 abbrev Inv-loop : tie.InvT-loop
-Inv-loop words marks₀ circles₀ rowWords width height capacity row found count₀ column₀ marks circles count column =
-    Sweeping words marks₀ circles₀ rowWords width height capacity row found marks circles count column
+Inv-loop words marks₀ records₀ shape capacity row found count₀ column₀ marks records count column =
+    Sweeping words marks₀ records₀ shape capacity row found marks records count column
 
 abbrev μ-loop : tie.MeasureT-loop
-μ-loop words marks₀ circles₀ rowWords width height capacity row found count₀ column₀ marks circles count column = width - column
+μ-loop words marks₀ records₀ shape capacity row found count₀ column₀ marks records count column = shape .width - column
 
 loop-holds : tie.Need-loop-holds Inv-loop μ-loop
 loop-holds c = search begins
 
-sub-loop : tie.Need-sub-loop Inv-loop μ-loop
-sub-loop c = search needs
+sub-if1 : tie.Need-sub-if1 Inv-loop μ-loop
+sub-if1 c = search needs
 
 search-from-requires : tie.Need-search-from-requires Inv-loop μ-loop
 search-from-requires c κs = search needs
@@ -190,7 +188,7 @@ sweep-row-spec =
     Inv-loop
     μ-loop
     loop-holds
-    sub-loop
+    sub-if1
     search-from-requires
     append-requires
     same-length

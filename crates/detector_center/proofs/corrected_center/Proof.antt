@@ -5,28 +5,30 @@ use mathlib.Core.Path.{_≡_, ap, _∙_}
 use borrow.Author.Needs.{needs}
 use Rattle.reads.specs.Runs.{Ran}
 use Rattle.reads.specs.RunsLaws.{ran-bind, ran-is}
+use Rattle.bit_matrix.specs.declared.Shape.{Shape}
 use Rattle.rxing_result_point.specs.declared.Point.{Point}
 use Rattle.rxing_result_point.specs.declared.PointU.{PointU}
 use Rattle.rxing_result_point.specs.Points.{rounded}
 use Rattle.detector_walks.specs.declared.Ends.{Ends}
 use Rattle.detector_walks.specs.Walks.{findWidthAtDegree}
 use Rattle.detector_walks.specs.StepsLaws.{sloped-7, sloped-97}
+use Rattle.detector_walks.specs.WalksLaws.{lent-on}
 use Rattle.detector_center.specs.Center.{findCenter, corrected}
 use Rattle.detector_center.proofs.corrected_center.Statement.{statement}
 use Rattle.detector_center.proofs.corrected_center.Tie as tie
 
-centered : {words m₀ m₁ m₂ : List ℕ} (rowWords size : ℕ) (center : PointU) {first second : Ends} {p : Point} {r : PointU}
-    → Ran (findWidthAtDegree rowWords size center 7) words m₀ first m₁ → Ran (findWidthAtDegree rowWords size center 97) words m₁ second m₂
+centered : {words m₀ m₁ m₂ : List ℕ} (shape : Shape) (center : PointU) {first second : Ends} {p : Point} {r : PointU}
+    → Ran (findWidthAtDegree shape center 7) words m₀ first m₁ → Ran (findWidthAtDegree shape center 97) words m₁ second m₂
     → r ≡ rounded p → p ≡ findCenter (first .left) (first .right) (second .left)
-    → Ran (corrected rowWords size center) words m₀ r m₂
+    → Ran (corrected shape center) words m₀ r m₂
 unfolding corrected
-centered rowWords size center one two e f = ran-bind _ one (ran-bind _ two (ran-is (e ∙ ap rounded f)))
+centered shape center one two e f = ran-bind _ one (ran-bind _ two (ran-is (e ∙ ap rounded f)))
 
 find-width-at-degree-requires : tie.Need-find-width-at-degree-requires
-find-width-at-degree-requires c κs = search (needs, sloped-7)
+find-width-at-degree-requires c κs = search (needs, sloped-7, sloped-97)
 
 find-width-at-degree-requires-2 : tie.Need-find-width-at-degree-requires-2
-find-width-at-degree-requires-2 c κs = search (needs, sloped-97)
+find-width-at-degree-requires-2 c κs = search (needs, lent-on, sloped-7, sloped-97)
 
 find-center-requires : tie.Need-find-center-requires
 find-center-requires c κs = search needs

@@ -12,6 +12,8 @@ use lib.ListN.{length, set, replicate, length-set}
 use Rattle.reads.specs.BitsLaws.{getD-zeros}
 use Rattle.reads.specs.Runs.{Ran, Resumes}
 use Rattle.reads.specs.RunsLaws.{ran-done, resumes-start, resumes-step, resumes-then, resumes-else, resumes-end}
+use Rattle.bit_matrix.specs.declared.Shape.{Shape}
+use Rattle.bit_matrix.specs.Shape.{Image}
 use Rattle.bit_matrix.specs.Pixels.{pixel}
 use Rattle.detector_widths.specs.Widths.{at}
 use Rattle.detector_widths.specs.Buckets.{bump}
@@ -55,67 +57,67 @@ rows-top false height row h = rw (le-ltb _ _ h)
 
 -- ---- the invariant, and a turn and the ends of the walk against the definition
 
-record Looking (words marks₀ : List ℕ) (rowWords height column start : ℕ) (up : Bool)
+record Looking (words marks₀ : List ℕ) (shape : Shape) (column start : ℕ) (up : Bool)
     (marks buckets : List ℕ) (row : ℕ) (last : Bool) (pointer : ℕ) : Type 0 where
-  sized : length marks ≡ length words
+  image : Image shape words marks
   six : length buckets ≡ 6
   within : pointer ≤ 5
-  room : (k : ℕ) → at buckets k + rowsLeft up height row ≤ height
+  room : (k : ℕ) → at buckets k + rowsLeft up (shape .height) row ≤ shape .height
   resumes : Resumes words
-      (vectorFrom rowWords (length words) column up (rowsLeft up height row) row last pointer buckets) marks
-      (columnVector rowWords (length words) height column start up) marks₀
+      (vectorFrom shape column up (rowsLeft up (shape .height) row) row last pointer buckets) marks
+      (columnVector shape column start up) marks₀
 
-begins : {words marks : List ℕ} {rowWords height column start : ℕ} {up : Bool} → length marks ≡ length words
-    → Looking words marks rowWords height column start up marks (replicate 6 0) start false 0
+begins : {words marks : List ℕ} {shape : Shape} {column start : ℕ} {up : Bool} → Image shape words marks
+    → Looking words marks shape column start up marks (replicate 6 0) start false 0
 unfolding columnVector
-begins {height = height} {start = start} {up = up} same = record {
-  sized = same;
+begins {shape = shape} {start = start} {up = up} image = record {
+  image = image;
   six = refl;
   within = omega arith;
-  room = λ k. rw (getD-zeros 6 k) (omega (arith, rows-le up height start));
+  room = λ k. rw (getD-zeros 6 k) (omega (arith, rows-le up (shape .height) start));
   resumes = resumes-start;
 }
 
-module _ {words marks₀ marks buckets : List ℕ} {rowWords height column start row pointer : ℕ} {up last : Bool}
-    (looking : Looking words marks₀ rowWords height column start up marks buckets row last pointer) where
-  no-row : rowsLeft up height row ≡ 0 → Ran (columnVector rowWords (length words) height column start up) words marks₀ buckets marks
+module _ {words marks₀ marks buckets : List ℕ} {shape : Shape} {column start row pointer : ℕ} {up last : Bool}
+    (looking : Looking words marks₀ shape column start up marks buckets row last pointer) where
+  no-row : rowsLeft up (shape .height) row ≡ 0 → Ran (columnVector shape column start up) words marks₀ buckets marks
   unfolding vectorFrom
   no-row none = resumes-end (ran-done buckets) (rw none at (looking .resumes))
 
-  module _ (above : 0 < row) (below : row < height) where
-    one-more : (k : ℕ) → height < 2 ^ 32 → at buckets k + 1 < 2 ^ 32
-    one-more k fits = omega (arith, rows-next up height row above below, looking .room k)
+  module _ (above : 0 < row) (below : row < shape .height) where
+    one-more : (k : ℕ) → at buckets k + 1 < 2 ^ 32
+    one-more k = omega (arith, rows-next up (shape .height) row above below, looking .room k, looking .image .limits .height-most)
 
-    fewer : {next : ℕ} → next ≡ rowAfter row up → rowsLeft up height next < rowsLeft up height row
-    fewer e = rw e (omega (arith, rows-next up height row above below))
+    fewer : {next : ℕ} → next ≡ rowAfter row up → rowsLeft up (shape .height) next < rowsLeft up (shape .height) row
+    fewer e = rw e (omega (arith, rows-next up (shape .height) row above below))
 
-    module _ {after : List ℕ} {black : Bool} (ran : Ran (pixel rowWords (length words) column row) words marks black after)
+    module _ {after : List ℕ} {black : Bool} (ran : Ran (pixel shape column row) words marks black after)
         {run : ℕ} (chosen : run ≡ pointerAfter pointer black last) where
       onward : {next : ℕ} → next ≡ rowAfter row up → run ≤ 5 → length after ≡ length marks
-          → Looking words marks₀ rowWords height column start up after (set buckets run (at buckets run + 1)) next black run
+          → Looking words marks₀ shape column start up after (set buckets run (at buckets run + 1)) next black run
       unfolding vectorFrom bump
       onward {next} moved most kept = record {
-        sized = kept ∙ looking .sized;
+        image = record { limits = looking .image .limits; stored = looking .image .stored; sized = kept ∙ looking .image .sized };
         six = simp length-set (looking .six);
         within = most;
-        room = rw moved λ k. omega (arith, rows-next up height row above below, looking .room k, bump-le buckets run k);
+        room = rw moved λ k. omega (arith, rows-next up (shape .height) row above below, looking .room k, bump-le buckets run k);
         resumes =
             rw (moved, chosen)
-            (resumes-else _ _ (rw chosen at (le-ltb _ _ most)) (resumes-step _ ran (rw (rows-next up height row above below) at (looking .resumes))));
+            (resumes-else _ _ (rw chosen at (le-ltb _ _ most)) (resumes-step _ ran (rw (rows-next up (shape .height) row above below) at (looking .resumes))));
       }
 
-      seventh : 5 < run → Ran (columnVector rowWords (length words) height column start up) words marks₀ buckets after
+      seventh : 5 < run → Ran (columnVector shape column start up) words marks₀ buckets after
       unfolding vectorFrom
       seventh past =
           resumes-end (ran-done buckets)
-          (resumes-then _ _ (rw chosen at (lt-ltb _ _ past)) (resumes-step _ ran (rw (rows-next up height row above below) at (looking .resumes))))
+          (resumes-then _ _ (rw chosen at (lt-ltb _ _ past)) (resumes-step _ ran (rw (rows-next up (shape .height) row above below) at (looking .resumes))))
 
 abbrev Inv-loop : tie.InvT-loop
-Inv-loop words marks₀ row-words height column start up buckets₀ row₀ last₀ pointer₀ marks buckets row last pointer =
-    Looking words marks₀ row-words height column start up marks buckets row last pointer
+Inv-loop words marks₀ shape column start up buckets₀ row₀ last₀ pointer₀ marks buckets row last pointer =
+    Looking words marks₀ shape column start up marks buckets row last pointer
 
 abbrev μ-loop : tie.MeasureT-loop
-μ-loop words marks₀ row-words height column start up buckets₀ row₀ last₀ pointer₀ marks buckets row last pointer = rowsLeft up height row
+μ-loop words marks₀ shape column start up buckets₀ row₀ last₀ pointer₀ marks buckets row last pointer = rowsLeft up (shape .height) row
 
 loop-holds : tie.Need-loop-holds Inv-loop μ-loop
 loop-holds c = search begins

@@ -8,26 +8,28 @@ use native.Mathlib.Omega.{arith}
 use borrow.Author.Needs.{needs}
 use Rattle.reads.specs.Runs.{Ran}
 use Rattle.reads.specs.RunsLaws.{ran-bind, ran-is, always-ran}
+use Rattle.bit_matrix.specs.declared.Shape.{Shape}
+use Rattle.bit_matrix.specs.Shape.{Limits}
 use Rattle.detector_widths.specs.Widths.{at, validWidths}
 use Rattle.detector_columns.specs.Columns.{columnVector, potentialBullseyeArray, potentialBullseye, tryColumnBy, tryColumn}
 use Rattle.detector_columns.specs.ColumnsLaws.{column-vector-le}
 use Rattle.detector_columns.proofs.try_column.Statement.{statement}
 use Rattle.detector_columns.proofs.try_column.Tie as tie
 
-module _ {words m m′ vector : List ℕ} (rowWords size height row column : ℕ) (lookingUp : Bool) where
-  first-run : Ran (columnVector rowWords size height column row lookingUp) words m vector m′ → height ≤ 2048 → at vector 0 ≤ 2048
-  first-run ran low = omega (arith, always-ran (column-vector-le rowWords size height column row lookingUp) ran .run 0)
+module _ {words m m′ vector : List ℕ} (shape : Shape) (row column : ℕ) (lookingUp : Bool) where
+  first-run : Ran (columnVector shape column row lookingUp) words m vector m′ → Limits shape → at vector 0 ≤ 2048
+  first-run ran limits = omega (arith, limits .height-most, always-ran (column-vector-le shape column row lookingUp) ran .run 0)
 
 sum-fits : {a b : ℕ} → a ≤ 2048 → b ≤ 2048 → a + b < 2 ^ 32
 sum-fits h k = omega arith
 
-tried : {words m₀ m₁ m₂ up down buckets : List ℕ} {good : Bool} (rowWords size height row column : ℕ)
-    → Ran (columnVector rowWords size height column row true) words m₀ up m₁
-    → Ran (columnVector rowWords size height column row false) words m₁ down m₂
+tried : {words m₀ m₁ m₂ up down buckets : List ℕ} {good : Bool} (shape : Shape) (row column : ℕ)
+    → Ran (columnVector shape column row true) words m₀ up m₁
+    → Ran (columnVector shape column row false) words m₁ down m₂
     → buckets ≡ potentialBullseyeArray down up → good ≡ validWidths buckets
-    → Ran (tryColumn rowWords size height row column) words m₀ (record { good = good; buckets = buckets }) m₂
+    → Ran (tryColumn shape row column) words m₀ (record { good = good; buckets = buckets }) m₂
 unfolding tryColumnBy potentialBullseye
-tried {buckets = buckets} rowWords size height row column above below same test =
+tried {buckets = buckets} shape row column above below same test =
     ran-bind _ (ran-bind _ above (ran-bind _ below (ran-is same))) (ran-is (ap (λ (b : Bool). record { good = b; buckets = buckets }) test))
 
 get-column-vector-requires : tie.Need-get-column-vector-requires

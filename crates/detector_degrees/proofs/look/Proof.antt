@@ -3,22 +3,25 @@ use Prim.Native.Nat.{ℕ}
 use mathlib.Core.List.{List}
 use mathlib.Core.Path.{_≡_}
 use borrow.Author.Needs.{needs}
-use lib.Ieee.{Float, binary32, add, sub, mul, toUnsigned}
+use lib.Ieee.{binary32, add, sub, mul, toUnsigned}
 use Rattle.ieee.specs.Sign.{abs}
 use Rattle.reads.specs.Runs.{Ran}
+use Rattle.bit_matrix.specs.declared.Shape.{Shape}
 use Rattle.bit_matrix.specs.declared.Sample.{Sample}
 use Rattle.bit_matrix.specs.Area.{tryGetArea}
+use Rattle.sines.specs.declared.Angle.{Angle}
+use Rattle.rxing_result_point.specs.declared.Point.{Point}
 use Rattle.detector_degrees.specs.Offsets.{lookPast}
 use Rattle.detector_degrees.proofs.look.Statement.{statement}
 use Rattle.detector_degrees.proofs.look.Tie as tie
 
-looked : {words marks after : List ℕ} {sample : Sample} (rowWords size width height x y : ℕ) (cx cy sin cos u v : Float)
-    → x ≡ toUnsigned 32 (abs (add binary32 (sub binary32 (mul binary32 cos u) (mul binary32 sin v)) cx))
-    → y ≡ toUnsigned 32 (abs (add binary32 (add binary32 (mul binary32 sin u) (mul binary32 cos v)) cy))
-    → Ran (tryGetArea rowWords size width height x y) words marks sample after
-    → Ran (lookPast rowWords size width height cx cy sin cos u v) words marks sample after
+looked : {words marks after : List ℕ} {sample : Sample} (shape : Shape) (x y : ℕ) (center : Point) (angle : Angle) (offset : Point)
+    → x ≡ toUnsigned 32 (abs (add binary32 (sub binary32 (mul binary32 (angle .cos) (offset .x)) (mul binary32 (angle .sin) (offset .y))) (center .x)))
+    → y ≡ toUnsigned 32 (abs (add binary32 (add binary32 (mul binary32 (angle .sin) (offset .x)) (mul binary32 (angle .cos) (offset .y))) (center .y)))
+    → Ran (tryGetArea shape x y) words marks sample after
+    → Ran (lookPast shape center angle offset) words marks sample after
 unfolding lookPast
-looked rowWords size width height x y cx cy sin cos u v e f ran = rw (e, f) at ran
+looked shape x y center angle offset e f ran = rw (e, f) at ran
 
 abs-f32-to-u32-requires : tie.Need-abs-f32-to-u32-requires
 abs-f32-to-u32-requires c κs = search needs

@@ -11,48 +11,51 @@ use lib.Ieee.{Float, nan}
 use lib.ListN.{length, getD}
 use Rattle.reads.specs.Runs.{Ran, Resumes}
 use Rattle.reads.specs.RunsLaws.{ran-done, resumes-start, resumes-step, resumes-then, resumes-else, resumes-end}
+use Rattle.bit_matrix.specs.declared.Shape.{Shape}
 use Rattle.bit_matrix.specs.declared.Sample.{Sample}
 use Rattle.bit_matrix.specs.declared.Sample.the-variants as samples
+use Rattle.sines.specs.declared.Angle.{Angle}
+use Rattle.rxing_result_point.specs.declared.Point.{Point}
 use Rattle.detector_degrees.specs.Degrees.{rightColour}
 use Rattle.detector_degrees.specs.Offsets.{lookPast, offsetsFrom, testOffsets}
 use Rattle.detector_degrees.specs.declared.Degree.the-variants.{Found, WrongColour, Outside}
 use Rattle.detector_degrees.proofs.test_degree.Statement.{statement}
 use Rattle.detector_degrees.proofs.test_degree.Tie as tie
 
-record Testing (words marks₀ : List ℕ) (rowWords width height : ℕ) (cx cy : Float) (columns rows : List Float) (sin cos : Float) (marks : List ℕ) (k : ℕ) : Type 0 where
+record Testing (words marks₀ : List ℕ) (shape : Shape) (center : Point) (columns rows : List Float) (angle : Angle) (marks : List ℕ) (k : ℕ) : Type 0 where
   sized : length marks ≡ length words
   resumes : Resumes words
-      (offsetsFrom rowWords (length words) width height cx cy columns rows sin cos (18 - k) k) marks
-      (testOffsets rowWords (length words) width height cx cy columns rows sin cos) marks₀
+      (offsetsFrom shape center columns rows angle (18 - k) k) marks
+      (testOffsets shape center columns rows angle) marks₀
 
-begins : {words marks : List ℕ} {rowWords width height : ℕ} {cx cy : Float} {columns rows : List Float} {sin cos : Float} → length marks ≡ length words
-    → Testing words marks rowWords width height cx cy columns rows sin cos marks 0
+begins : {words marks : List ℕ} {shape : Shape} {center : Point} {columns rows : List Float} {angle : Angle} → length marks ≡ length words
+    → Testing words marks shape center columns rows angle marks 0
 unfolding testOffsets
 begins same = record { sized = same; resumes = resumes-start }
 
-module _ {words marks₀ marks : List ℕ} {rowWords width height k : ℕ} {cx cy : Float} {columns rows : List Float} {sin cos : Float}
-    (testing : Testing words marks₀ rowWords width height cx cy columns rows sin cos marks k) where
-  at-end : 18 ≤ k → Ran (testOffsets rowWords (length words) width height cx cy columns rows sin cos) words marks₀ Found marks
+module _ {words marks₀ marks : List ℕ} {shape : Shape} {center : Point} {columns rows : List Float} {angle : Angle} {k : ℕ}
+    (testing : Testing words marks₀ shape center columns rows angle marks k) where
+  at-end : 18 ≤ k → Ran (testOffsets shape center columns rows angle) words marks₀ Found marks
   unfolding offsetsFrom
   at-end h =
       let none : 18 - k ≡ 0 = omega arith in
       resumes-end (ran-done _) (rw none at (testing .resumes))
 
   module _ (h : k < 18) {sample : Sample} {after : List ℕ}
-      (ran : Ran (lookPast rowWords (length words) width height cx cy sin cos (getD columns k nan) (getD rows k nan)) words marks sample after) where
+      (ran : Ran (lookPast shape center angle (record { x = getD columns k nan; y = getD rows k nan })) words marks sample after) where
     left : 18 - k ≡ suc (18 - (k + 1))
     left = omega arith
 
-    lost : sample ≡ samples.Outside → Ran (testOffsets rowWords (length words) width height cx cy columns rows sin cos) words marks₀ Outside after
+    lost : sample ≡ samples.Outside → Ran (testOffsets shape center columns rows angle) words marks₀ Outside after
     unfolding offsetsFrom
     lost e = resumes-end (ran-done _) (resumes-step _ (rw e at ran) (rw left at (testing .resumes)))
 
     module _ {black right : Bool} (e : sample ≡ samples.Inside black) (colour : right ≡ rightColour k black) where
-      wrong : right ≡ false → Ran (testOffsets rowWords (length words) width height cx cy columns rows sin cos) words marks₀ WrongColour after
+      wrong : right ≡ false → Ran (testOffsets shape center columns rows angle) words marks₀ WrongColour after
       unfolding offsetsFrom
       wrong f = resumes-end (ran-done _) (resumes-else _ _ (sym colour ∙ f) (resumes-step _ (rw e at ran) (rw left at (testing .resumes))))
 
-      onward : right ≡ true → length after ≡ length marks → Testing words marks₀ rowWords width height cx cy columns rows sin cos after (k + 1)
+      onward : right ≡ true → length after ≡ length marks → Testing words marks₀ shape center columns rows angle after (k + 1)
       unfolding offsetsFrom
       onward t kept = record {
         sized = kept ∙ testing .sized;
@@ -60,10 +63,10 @@ module _ {words marks₀ marks : List ℕ} {rowWords width height k : ℕ} {cx c
       }
 
 abbrev Inv-loop : tie.InvT-loop
-Inv-loop words marks₀ row-words width height cx cy columns rows sin cos k₀ marks k = Testing words marks₀ row-words width height cx cy columns rows sin cos marks k
+Inv-loop words marks₀ shape center columns rows angle k₀ marks k = Testing words marks₀ shape center columns rows angle marks k
 
 abbrev μ-loop : tie.MeasureT-loop
-μ-loop words marks₀ row-words width height cx cy columns rows sin cos k₀ marks k = 18 - k
+μ-loop words marks₀ shape center columns rows angle k₀ marks k = 18 - k
 
 loop-holds : tie.Need-loop-holds Inv-loop μ-loop
 loop-holds c = search begins

@@ -9,7 +9,10 @@ use lib.Ieee.{Float}
 use lib.ListN.{length}
 use Rattle.reads.specs.Runs.{Ran, Resumes}
 use Rattle.reads.specs.RunsLaws.{ran-done, resumes-start, resumes-step, resumes-end}
-use Rattle.sines.specs.Sines.{sineOf, cosineOf}
+use Rattle.bit_matrix.specs.declared.Shape.{Shape}
+use Rattle.sines.specs.Sines.{angleOf}
+use Rattle.sines.specs.declared.Angle.{Angle}
+use Rattle.rxing_result_point.specs.declared.Point.{Point}
 use Rattle.detector_degrees.specs.declared.Degree.{Degree}
 use Rattle.detector_degrees.specs.declared.Degree.the-variants.{Found, WrongColour, Outside}
 use Rattle.detector_degrees.specs.Offsets.{testOffsets, turnsFrom, tryOffsets}
@@ -17,50 +20,50 @@ use Rattle.detector_degrees.specs.declared.Rotation.the-variants as rota
 use Rattle.detector_degrees.proofs.try_offsets.Statement.{statement}
 use Rattle.detector_degrees.proofs.try_offsets.Tie as tie
 
-record Trying (words marks₀ : List ℕ) (rowWords width height : ℕ) (cx cy : Float) (columns rows : List Float) (marks : List ℕ) (i : ℕ) : Type 0 where
+record Trying (words marks₀ : List ℕ) (shape : Shape) (center : Point) (columns rows : List Float) (marks : List ℕ) (i : ℕ) : Type 0 where
   sized : length marks ≡ length words
   resumes : Resumes words
-      (turnsFrom rowWords (length words) width height cx cy columns rows (175 - i) i) marks
-      (tryOffsets rowWords (length words) width height cx cy columns rows) marks₀
+      (turnsFrom shape center columns rows (175 - i) i) marks
+      (tryOffsets shape center columns rows) marks₀
 
-begins : {words marks : List ℕ} {rowWords width height : ℕ} {cx cy : Float} {columns rows : List Float} → length marks ≡ length words
-    → Trying words marks rowWords width height cx cy columns rows marks 0
+begins : {words marks : List ℕ} {shape : Shape} {center : Point} {columns rows : List Float} → length marks ≡ length words
+    → Trying words marks shape center columns rows marks 0
 unfolding tryOffsets
 begins same = record { sized = same; resumes = resumes-start }
 
-module _ {words marks₀ marks : List ℕ} {rowWords width height i : ℕ} {cx cy : Float} {columns rows : List Float}
-    (trying : Trying words marks₀ rowWords width height cx cy columns rows marks i) where
-  at-end : 175 ≤ i → Ran (tryOffsets rowWords (length words) width height cx cy columns rows) words marks₀ rotation.None marks
+module _ {words marks₀ marks : List ℕ} {shape : Shape} {center : Point} {columns rows : List Float} {i : ℕ}
+    (trying : Trying words marks₀ shape center columns rows marks i) where
+  at-end : 175 ≤ i → Ran (tryOffsets shape center columns rows) words marks₀ rotation.None marks
   unfolding turnsFrom
   at-end h =
       let none : 175 - i ≡ 0 = omega arith in
       resumes-end (ran-done _) (rw none at (trying .resumes))
 
-  module _ (h : i < 175) {sin cos : Float} (s : sin ≡ sineOf (i * 2)) (k : cos ≡ cosineOf (i * 2)) {degree : Degree} {after : List ℕ}
-      (ran : Ran (testOffsets rowWords (length words) width height cx cy columns rows sin cos) words marks degree after) where
+  module _ (h : i < 175) {angle : Angle} (a : angle ≡ angleOf (i * 2)) {degree : Degree} {after : List ℕ}
+      (ran : Ran (testOffsets shape center columns rows angle) words marks degree after) where
     left : 175 - i ≡ suc (175 - (i + 1))
     left = omega arith
 
-    found : degree ≡ Found → Ran (tryOffsets rowWords (length words) width height cx cy columns rows) words marks₀ (rotation.Found (i * 2)) after
+    found : degree ≡ Found → Ran (tryOffsets shape center columns rows) words marks₀ (rotation.Found (i * 2)) after
     unfolding turnsFrom
-    found e = resumes-end (ran-done _) (resumes-step _ (rw (e, s, k) at ran) (rw left at (trying .resumes)))
+    found e = resumes-end (ran-done _) (resumes-step _ (rw (e, a) at ran) (rw left at (trying .resumes)))
 
-    lost : degree ≡ Outside → Ran (tryOffsets rowWords (length words) width height cx cy columns rows) words marks₀ rotation.None after
+    lost : degree ≡ Outside → Ran (tryOffsets shape center columns rows) words marks₀ rotation.None after
     unfolding turnsFrom
-    lost e = resumes-end (ran-done _) (resumes-step _ (rw (e, s, k) at ran) (rw left at (trying .resumes)))
+    lost e = resumes-end (ran-done _) (resumes-step _ (rw (e, a) at ran) (rw left at (trying .resumes)))
 
-    onward : degree ≡ WrongColour → length after ≡ length marks → Trying words marks₀ rowWords width height cx cy columns rows after (i + 1)
+    onward : degree ≡ WrongColour → length after ≡ length marks → Trying words marks₀ shape center columns rows after (i + 1)
     unfolding turnsFrom
     onward e kept = record {
       sized = kept ∙ trying .sized;
-      resumes = resumes-step _ (rw (e, s, k) at ran) (rw left at (trying .resumes));
+      resumes = resumes-step _ (rw (e, a) at ran) (rw left at (trying .resumes));
     }
 
 abbrev Inv-loop : tie.InvT-loop
-Inv-loop words marks₀ row-words width height cx cy columns rows table i₀ marks i = Trying words marks₀ row-words width height cx cy columns rows marks i
+Inv-loop words marks₀ shape center columns rows table i₀ marks i = Trying words marks₀ shape center columns rows marks i
 
 abbrev μ-loop : tie.MeasureT-loop
-μ-loop words marks₀ row-words width height cx cy columns rows table i₀ marks i = 175 - i
+μ-loop words marks₀ shape center columns rows table i₀ marks i = 175 - i
 
 loop-holds : tie.Need-loop-holds Inv-loop μ-loop
 loop-holds c = search begins
@@ -68,11 +71,8 @@ loop-holds c = search begins
 mul-degree : tie.Need-mul-degree Inv-loop μ-loop
 mul-degree c = search needs
 
-sine-requires : tie.Need-sine-requires Inv-loop μ-loop
-sine-requires c κs = search needs
-
-cosine-requires : tie.Need-cosine-requires Inv-loop μ-loop
-cosine-requires c κs = search needs
+angle-of-requires : tie.Need-angle-of-requires Inv-loop μ-loop
+angle-of-requires c κs = search needs
 
 test-degree-requires : tie.Need-test-degree-requires Inv-loop μ-loop
 test-degree-requires c κs = search needs
@@ -121,8 +121,7 @@ try-offsets-spec =
     μ-loop
     loop-holds
     mul-degree
-    sine-requires
-    cosine-requires
+    angle-of-requires
     test-degree-requires
     enum-told
     same-length

@@ -7,6 +7,9 @@ use Rattle.detector_kept.proofs.is_near.Tie as tie
 mul-is-within : tie.Need-mul-is-within
 mul-is-within c = search needs
 
+add-is-within : tie.Need-add-is-within
+add-is-within c = search needs
+
 mul-is-within-2 : tie.Need-mul-is-within-2
 mul-is-within-2 c = search needs
 
@@ -19,8 +22,8 @@ is-within-requires c κs = search needs
 mul-is-within-3 : tie.Need-mul-is-within-3
 mul-is-within-3 c = search needs
 
-add-is-within : tie.Need-add-is-within
-add-is-within c = search needs
+add-is-within-2 : tie.Need-add-is-within-2
+add-is-within-2 c = search needs
 
 mul-is-within-4 : tie.Need-mul-is-within-4
 mul-is-within-4 c = search needs
@@ -42,11 +45,12 @@ is-near-spec =
     tie.close
     (tie.spec
     mul-is-within
+    add-is-within
     mul-is-within-2
     shared-slice-read-is-within
     is-within-requires
     mul-is-within-3
-    add-is-within
+    add-is-within-2
     mul-is-within-4
     shared-slice-read-is-within-2
     is-within-requires-2

@@ -20,10 +20,7 @@ rank-records-requires c κs =
     let varied = c .before .before .before in
     let retained = varied .before .before .before .before in
     let start = retained .before .before .before .before .before in
-    rankable (start .pre) (retained .retain-near .ensures) (varied .set-variances .last .0) (varied .set-variances .ensures) (search needs) (search needs)
-
-capacity-of-requires : tie.Need-capacity-of-requires
-capacity-of-requires c κs = search needs
+    rankable (start .pre .0) (retained .retain-near .ensures) (varied .set-variances .last .0) (varied .set-variances .ensures) (search needs) (search needs)
 
 mul-clear : tie.Need-mul-clear
 mul-clear c = search needs
@@ -43,25 +40,23 @@ same-length c = search needs
 returns : tie.Need-returns
 returns c =
     let cleared = c .before .before in
-    let capacity = cleared .before .before in
-    let sorted = capacity .before .before .before in
+    let sorted = cleared .before .before .before .before in
     let varied = sorted .before .before .before .before in
     let retained = varied .before .before .before .before in
     let spreads = retained .before .before in
     let start = spreads .before .before .before in
     composed
-    (start .pre)
+    (start .pre .0)
     (retained .retain-near .ensures)
-    (capacity .capacity-of .result)
-    (length (sorted .rank-records .last .0))
-    (capacity .capacity-of .ensures)
-    (search needs)
+    (start .args .capacity)
+    (start .pre .1)
+    (start .pre .2)
     (spreads .calculate-center-point-std-dev .ensures)
     (varied .set-variances .last .0)
     (varied .set-variances .ensures)
     (sorted .rank-records .last .0)
     (sorted .rank-records .ensures)
-    refl
+    (search needs)
     (cleared .clear .last .0)
     (cleared .clear .ensures)
 
@@ -73,7 +68,6 @@ keep-and-rank-spec =
     retain-near-requires
     set-variances-requires
     rank-records-requires
-    capacity-of-requires
     mul-clear
     sub-clear
     mul-clear-2

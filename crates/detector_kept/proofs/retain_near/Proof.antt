@@ -6,10 +6,10 @@ use Rattle.detector_kept.proofs.retain_near.Statement.{statement}
 use Rattle.detector_kept.proofs.retain_near.Tie as tie
 
 abbrev Inv-loop : tie.InvT-loop
-Inv-loop words₀ found spread kept₀ i₀ words kept i = Retaining found spread words₀ words kept i
+Inv-loop records₀ found spread kept₀ i₀ records kept i = Retaining found spread records₀ records kept i
 
 abbrev μ-loop : tie.MeasureT-loop
-μ-loop words₀ found spread kept₀ i₀ words kept i = found - i
+μ-loop records₀ found spread kept₀ i₀ records kept i = found - i
 
 loop-holds : tie.Need-loop-holds Inv-loop μ-loop
 loop-holds c = search begins

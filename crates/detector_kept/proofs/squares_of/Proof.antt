@@ -7,10 +7,10 @@ use Rattle.detector_kept.proofs.squares_of.Statement.{statement}
 use Rattle.detector_kept.proofs.squares_of.Tie as tie
 
 abbrev Inv-loop : tie.InvT-loop
-Inv-loop words found axis mean sum₀ i₀ sum i = Squared words found axis mean sum i
+Inv-loop records found axis mean sum₀ i₀ sum i = Squared records found axis mean sum i
 
 abbrev μ-loop : tie.MeasureT-loop
-μ-loop words found axis mean sum₀ i₀ sum i = found - i
+μ-loop records found axis mean sum₀ i₀ sum i = found - i
 
 loop-holds : tie.Need-loop-holds Inv-loop μ-loop
 loop-holds c = search squares-begin

@@ -6,10 +6,10 @@ use Rattle.detector_kept.proofs.total_of.Statement.{statement}
 use Rattle.detector_kept.proofs.total_of.Tie as tie
 
 abbrev Inv-loop : tie.InvT-loop
-Inv-loop words found axis sum₀ i₀ sum i = Summed words found axis sum i
+Inv-loop records found axis sum₀ i₀ sum i = Summed records found axis sum i
 
 abbrev μ-loop : tie.MeasureT-loop
-μ-loop words found axis sum₀ i₀ sum i = found - i
+μ-loop records found axis sum₀ i₀ sum i = found - i
 
 loop-holds : tie.Need-loop-holds Inv-loop μ-loop
 loop-holds c = search sum-begins

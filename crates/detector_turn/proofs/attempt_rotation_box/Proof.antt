@@ -1,38 +1,40 @@
 -- `detector_turn::attempt_rotation_box` meets its contract: the degrees' run, at the points that the other calls give. Assumes nothing.
-use Prim.Native.Nat.{ℕ, _≤_, _<_}
+use Prim.Native.Nat.{ℕ}
 use mathlib.Core.List.{List}
 use mathlib.Core.Path.{_≡_}
 use lib.Dec.{T}
 use lib.Ieee.{Float}
 use Rattle.reads.specs.Runs.{Ran}
+use Rattle.bit_matrix.specs.declared.Shape.{Shape}
 use Rattle.rxing_result_point.specs.declared.PointU.{PointU}
 use Rattle.detector_boundary.specs.declared.Boundary.{Boundary}
 use Rattle.detector_boundary.specs.Boundary.{scaledBoundary}
 use Rattle.detector_boundary.specs.Size.{isScale}
-use Rattle.detector_boundary.specs.Within.{Placed, scaled-placed}
+use Rattle.detector_boundary.specs.InImage.{Placed, scaled-placed}
 use Rattle.detector_points.specs.Orientation.{orientationPoints}
+use Rattle.detector_circle.specs.declared.Circle.{Circle}
 use Rattle.detector_degrees.specs.declared.Rotation.{Rotation}
 use Rattle.detector_degrees.specs.Degrees.{tryDegrees}
-use Rattle.detector_turn.specs.Scales.{ImageBounds, Inner, attemptRotationBox}
-use Rattle.detector_turn.specs.ScalesLaws.{pixel-of}
+use Rattle.detector_turn.specs.Scales.{LentCircle, attemptRotationBox}
+use Rattle.detector_turn.specs.ScalesLaws.{centered-of}
 use borrow.Author.Needs.{needs}
 use Rattle.detector_turn.proofs.attempt_rotation_box.Statement.{statement}
 use Rattle.detector_turn.proofs.attempt_rotation_box.Tie as tie
 
-placed : {size rowWords width height radius : ℕ} {p : PointU} (scale : Float) {b : Boundary} → ImageBounds size rowWords width height → Inner width height p
-    → 6 ≤ radius → radius < 2048 → T (isScale scale) → b ≡ scaledBoundary width height (p .x) (p .y) radius scale → Placed b
-placed scale image inner least most t e = rw e (scaled-placed scale (pixel-of image inner) least most t)
+placed : {shape : Shape} {words marks : List ℕ} {circle : Circle} {table : List Float} (scale : Float) {b : Boundary}
+    → LentCircle shape words marks circle table → T (isScale scale) → b ≡ scaledBoundary shape (circle .center) (circle .radius) scale → Placed b
+placed scale lent t e = rw e (scaled-placed scale (centered-of lent) (lent .least) (lent .most) t)
 
-attempted : {words marks after : List ℕ} {r : Rotation} (rowWords size width height radius : ℕ) (center : PointU) (scale : Float)
+attempted : {words marks after : List ℕ} {r : Rotation} (shape : Shape) (circle : Circle) (scale : Float)
     {b : Boundary} {points : List (List PointU)}
-    → b ≡ scaledBoundary width height (center .x) (center .y) radius scale → points ≡ orientationPoints b
-    → Ran (tryDegrees rowWords size width height center points) words marks r after
-    → Ran (attemptRotationBox rowWords size width height radius center scale) words marks r after
+    → b ≡ scaledBoundary shape (circle .center) (circle .radius) scale → points ≡ orientationPoints b
+    → Ran (tryDegrees shape (circle .center) points) words marks r after
+    → Ran (attemptRotationBox shape circle scale) words marks r after
 unfolding attemptRotationBox
-attempted rowWords size width height radius center scale e f ran = rw (f, e) at ran
+attempted shape circle scale e f ran = rw (f, e) at ran
 
 scaled-boundary-requires : tie.Need-scaled-boundary-requires
-scaled-boundary-requires c κs = search (needs, pixel-of)
+scaled-boundary-requires c κs = search (needs, centered-of)
 
 adjusted-orientation-points-requires : tie.Need-adjusted-orientation-points-requires
 adjusted-orientation-points-requires c κs = search placed

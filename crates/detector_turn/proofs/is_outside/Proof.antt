@@ -1,22 +1,23 @@
 -- `detector_turn::is_outside` meets its contract, by the column. Assumes nothing.
-use Prim.Native.Nat.{ℕ, _≤_, _<_}
+use Prim.Native.Nat.{_≤_, _<_}
 use mathlib.Core.Bool.{Bool, _||_}
 use mathlib.Core.Path.{_≡_, sym, ap, _∙_}
 use borrow.Author.Tests.{le-leb, lt-leb}
 use lib.Dec.{leb}
+use Rattle.bit_matrix.specs.declared.Shape.{Shape}
 use Rattle.rxing_result_point.specs.declared.PointU.{PointU}
 use Rattle.detector_turn.specs.Scales.{isOutside}
 use Rattle.detector_turn.proofs.is_outside.Statement.{statement}
 use Rattle.detector_turn.proofs.is_outside.Tie as tie
 
-module _ (width height : ℕ) (p : PointU) where
-  past : width ≤ p .x → leb width (p .x) ≡ isOutside width height p
+module _ (shape : Shape) (p : PointU) where
+  past : shape .width ≤ p .x → leb (shape .width) (p .x) ≡ isOutside shape p
   unfolding isOutside
-  past h = le-leb width (p .x) h ∙ sym (ap (λ (b : Bool). b || leb height (p .y)) (le-leb width (p .x) h))
+  past h = le-leb (shape .width) (p .x) h ∙ sym (ap (λ (b : Bool). b || leb (shape .height) (p .y)) (le-leb (shape .width) (p .x) h))
 
-  within : p .x < width → leb height (p .y) ≡ isOutside width height p
+  within : p .x < shape .width → leb (shape .height) (p .y) ≡ isOutside shape p
   unfolding isOutside
-  within h = sym (ap (λ (b : Bool). b || leb height (p .y)) (lt-leb width (p .x) h))
+  within h = sym (ap (λ (b : Bool). b || leb (shape .height) (p .y)) (lt-leb (shape .width) (p .x) h))
 
 returns : tie.Need-returns
 returns c = search past

@@ -1,89 +1,112 @@
--- `detector_turn::try_scales` meets its contract. The invariant is `Trying`: from the present scale and centre, what is left of the definition ends as
+-- `detector_turn::try_scales` meets its contract. The invariant is `Trying`: from the present scale and circle, what is left of the definition ends as
 -- the whole does. The measure is the scales left. Assumes nothing.
 use Prim.Native.Nat.{ℕ, suc, _+_, _-_, _≤_, _<_}
-use mathlib.Core.Bool.{true, false}
+use mathlib.Core.Bool.{Bool, true, false}
 use mathlib.Core.List.{List}
 use mathlib.Core.Path.{_≡_, sym, _∙_}
 use native.Mathlib.Omega.{arith}
 use borrow.Author.Needs.{needs}
+use lib.Dec.{T}
 use lib.Ieee.{Float}
 use lib.ListN.{length}
 use Rattle.reads.specs.Runs.{Ran, Resumes}
-use Rattle.reads.specs.RunsLaws.{ran-is, ran-length, answered, resumes-start, resumes-step, resumes-then, resumes-else, resumes-end}
-use Rattle.rxing_result_point.specs.declared.PointU.{PointU}
-use Rattle.detector_walks.specs.Walks.{CenterWithin}
-use Rattle.detector_center.specs.Center.{corrected}
+use Rattle.reads.specs.RunsLaws.{ran-is, ran-length, always-ran, resumes-start, resumes-step, resumes-then, resumes-else, resumes-end}
+use Rattle.bit_matrix.specs.declared.Shape.{Shape}
+use Rattle.bit_matrix.specs.Shape.{Image}
+use Rattle.detector_boundary.specs.Size.{isScale}
+use Rattle.detector_circle.specs.declared.Circle.{Circle}
+use Rattle.detector_circle.specs.Circle.{correctedCircle}
 use Rattle.detector_degrees.specs.declared.Rotation.{Rotation}
 use Rattle.detector_degrees.specs.declared.Rotation.the-variants.{Found, None}
 use Rattle.detector_turn.specs.declared.Turn.{Turn}
-use Rattle.detector_turn.specs.Scales.{ImageBounds, Inner, acceptedScale, turnedBy, notTurned, lostAt, isOutside, attemptRotationBox, scalesFrom, tryScales}
-use Rattle.detector_turn.specs.ScalesLaws.{inner-of, accepted}
+use Rattle.detector_turn.specs.Scales.{LentCircle, acceptedScale, turnedBy, notTurned, lostAt, isOutside, attemptRotationBox, scalesFrom, tryScales}
+use Rattle.detector_turn.specs.ScalesLaws.{inside-of, radius-kept, accepted}
 use Rattle.detector_turn.proofs.try_scales.Statement.{statement}
 use Rattle.detector_turn.proofs.try_scales.Tie as tie
 
-within : {size rowWords width height : ℕ} {p : PointU} → ImageBounds size rowWords width height → Inner width height p → CenterWithin size rowWords p
-within image inner = record { narrow = image .row; fit = image .fit; left = omega (arith, image, inner); low = omega (arith, image, inner) }
-
-record Trying (words marks₀ : List ℕ) (rowWords width height radius : ℕ) (start : PointU) (marks : List ℕ) (center : PointU) (scale : ℕ) : Type 0 where
-  sized : length marks ≡ length words
+record Trying (words marks₀ : List ℕ) (shape : Shape) (table : List Float) (start : Circle) (marks : List ℕ) (circle : Circle) (scale : ℕ) : Type 0 where
+  lent : LentCircle shape words marks circle table
   first : 1 ≤ scale
-  inner : Inner width height center
-  resumes : Resumes words
-      (scalesFrom rowWords (length words) width height radius (6 - scale) scale center) marks
-      (tryScales rowWords (length words) width height radius start) marks₀
+  resumes : Resumes words (scalesFrom shape (6 - scale) scale circle) marks (tryScales shape start) marks₀
 
-begins : {words marks : List ℕ} {rowWords width height radius : ℕ} {center : PointU} → length marks ≡ length words → Inner width height center
-    → Trying words marks rowWords width height radius center marks center 1
+begins : {words marks : List ℕ} {shape : Shape} {table : List Float} {circle : Circle} → LentCircle shape words marks circle table
+    → Trying words marks shape table circle marks circle 1
 unfolding tryScales
-begins same inner = record { sized = same; first = omega arith; inner = inner; resumes = resumes-start }
+begins lent = record { lent = lent; first = omega arith; resumes = resumes-start }
 
-module _ {words marks₀ marks : List ℕ} {rowWords width height radius scale : ℕ} {start center : PointU}
-    (trying : Trying words marks₀ rowWords width height radius start marks center scale) where
+-- lent again after marks were set
+again : {words marks after : List ℕ} {shape : Shape} {circle : Circle} {table : List Float}
+    → LentCircle shape words marks circle table → length after ≡ length marks → LentCircle shape words after circle table
+again {words} {marks} {after} {shape} {circle} before kept =
+    let image : Image shape words after = record {
+      limits = before .lent .image .limits;
+      stored = before .lent .image .stored;
+      sized = kept ∙ before .lent .image .sized;
+    } in
+    record { lent = record { image = image; inside = before .lent .inside; table-is = before .lent .table-is }; least = before .least; most = before .most }
+
+module _ {words marks₀ marks : List ℕ} {shape : Shape} {table : List Float} {start circle : Circle} {scale : ℕ}
+    (trying : Trying words marks₀ shape table start marks circle scale) where
   abbrev Result : Turn → List ℕ → Type 0
-  Result r after = Ran (tryScales rowWords (length words) width height radius start) words marks₀ r after
+  Result r after = Ran (tryScales shape start) words marks₀ r after
 
-  at-end : {r : Turn} → 6 ≤ scale → r ≡ notTurned center → Result r marks
+  at-end : {r : Turn} → 6 ≤ scale → r ≡ notTurned (circle .center) → Result r marks
   unfolding scalesFrom
   at-end h e =
       let none : 6 - scale ≡ 0 = omega arith in
       resumes-end (ran-is e) (rw none at (trying .resumes))
 
-  module _ (h : scale < 6) {next : PointU} {after : List ℕ} (ran : Ran (corrected rowWords (length words) center) words marks next after) where
+  module _ (h : scale < 6) {next : Circle} {after : List ℕ} (ran : Ran (correctedCircle shape circle) words marks next after)
+      {out : Bool} (asked : out ≡ isOutside shape (next .center)) where
     left : 6 - scale ≡ suc (6 - (scale + 1))
     left = omega arith
 
-    outside : {r : Turn} → isOutside width height next ≡ true → r ≡ lostAt scale center → Result r after
+    outside : {r : Turn} → out ≡ true → r ≡ lostAt scale (circle .center) → Result r after
     unfolding scalesFrom
-    outside out e = resumes-end (ran-is e) (resumes-then _ _ out (resumes-step _ ran (rw left at (trying .resumes))))
+    outside t e = resumes-end (ran-is e) (resumes-then _ _ (sym asked ∙ t) (resumes-step _ ran (rw left at (trying .resumes))))
 
-    module _ (inside : isOutside width height next ≡ false) {percent : Float} (s : percent ≡ acceptedScale scale) {rotation : Rotation} {last : List ℕ}
-        (tried : Ran (attemptRotationBox rowWords (length words) width height radius next percent) words after rotation last) where
-      found : {r : Turn} {degree : ℕ} → rotation ≡ Found degree → r ≡ turnedBy degree scale next → Result r last
-      unfolding scalesFrom
-      found is e =
-          resumes-end (ran-is e)
-          (resumes-step _ (rw (is, s) at tried) (resumes-else _ _ inside (resumes-step _ ran (rw left at (trying .resumes)))))
+    module _ (f : out ≡ false) where
+      -- the corrected circle, its centre inside, is lent on
+      lent-on : LentCircle shape words after next table
+      lent-on =
+          let kept : next .radius ≡ circle .radius = always-ran (radius-kept shape circle) ran in
+          let before = again (trying .lent) (ran-length ran) in
+          record {
+            lent = record { image = before .lent .image; inside = inside-of shape (next .center) (sym asked ∙ f); table-is = before .lent .table-is };
+            least = rw kept (before .least);
+            most = rw kept (before .most);
+          }
 
-      onward : rotation ≡ None → Trying words marks₀ rowWords width height radius start last next (scale + 1)
-      unfolding scalesFrom
-      onward is = record {
-        sized = ran-length tried ∙ ran-length ran ∙ trying .sized;
-        first = omega arith;
-        inner = inner-of width height next inside;
-        resumes = resumes-step _ (rw (is, s) at tried) (resumes-else _ _ inside (resumes-step _ ran (rw left at (trying .resumes))));
-      }
+      module _ {percent : Float} (s : percent ≡ acceptedScale scale) where
+        is-scale : T (isScale percent)
+        is-scale = rw s (accepted scale (trying .first) h)
+
+        module _ {rotation : Rotation} {last : List ℕ} (tried : Ran (attemptRotationBox shape next percent) words after rotation last) where
+          found : {r : Turn} {degree : ℕ} → rotation ≡ Found degree → r ≡ turnedBy degree scale (next .center) → Result r last
+          unfolding scalesFrom
+          found is e =
+              resumes-end (ran-is e)
+              (resumes-step _ (rw (is, s) at tried) (resumes-else _ _ (sym asked ∙ f) (resumes-step _ ran (rw left at (trying .resumes)))))
+
+          onward : rotation ≡ None → Trying words marks₀ shape table start last next (scale + 1)
+          unfolding scalesFrom
+          onward is = record {
+            lent = again lent-on (ran-length tried);
+            first = omega arith;
+            resumes = resumes-step _ (rw (is, s) at tried) (resumes-else _ _ (sym asked ∙ f) (resumes-step _ ran (rw left at (trying .resumes))));
+          }
 
 abbrev Inv-loop : tie.InvT-loop
-Inv-loop words marks₀ row-words width height radius table last₀ scale₀ marks last scale = Trying words marks₀ row-words width height radius last₀ marks last scale
+Inv-loop words marks₀ shape table last₀ scale₀ marks last scale = Trying words marks₀ shape table last₀ marks last scale
 
 abbrev μ-loop : tie.MeasureT-loop
-μ-loop words marks₀ row-words width height radius table last₀ scale₀ marks last scale = 6 - scale
+μ-loop words marks₀ shape table last₀ scale₀ marks last scale = 6 - scale
 
 loop-holds : tie.Need-loop-holds Inv-loop μ-loop
 loop-holds c = search begins
 
-corrected-center-requires : tie.Need-corrected-center-requires Inv-loop μ-loop
-corrected-center-requires c κs = search (needs, within)
+with-corrected-center-requires : tie.Need-with-corrected-center-requires Inv-loop μ-loop
+with-corrected-center-requires c κs = search needs
 
 is-outside-requires : tie.Need-is-outside-requires Inv-loop μ-loop
 is-outside-requires c κs = search needs
@@ -95,36 +118,13 @@ same-length : tie.Need-same-length Inv-loop μ-loop
 same-length c = search needs
 
 returns : tie.Need-returns Inv-loop μ-loop
-returns c =
-    let asked = c .before .before in
-    let ran = asked .before .before .before in
-    let turn = ran .before .before in
-    outside (turn .before .loop .inv) (turn .loop-test .taken) (ran .corrected-center .ensures) (answered (asked .is-outside .ensures) (c .before .if1 .taken))
-    (c .lost-at .ensures)
+returns c = search outside
 
 accepted-scale-requires : tie.Need-accepted-scale-requires Inv-loop μ-loop
 accepted-scale-requires c κs = search needs
 
 attempt-rotation-box-requires : tie.Need-attempt-rotation-box-requires Inv-loop μ-loop
-attempt-rotation-box-requires c κs =
-    let outside = c .before .before in
-    let asked = outside .before in
-    let ran = asked .before .before .before in
-    let turn = ran .before .before in
-    let trying = turn .before .loop .inv in
-    let pre = turn .before .before .before .before .pre in (
-      ran-length (ran .corrected-center .ensures) ∙ trying .sized,
-      (
-        pre .1 .0,
-        (
-          inner-of _ _ _ (answered (asked .is-outside .ensures) (outside .if1 .left)),
-          (
-            (pre .1 .1 .1 .0 .0, pre .1 .1 .1 .0 .1, rw (c .before .accepted-scale .ensures) (accepted _ (trying .first) (turn .loop-test .taken))),
-            pre .1 .1 .1 .1,
-          ),
-        ),
-      ),
-    )
+attempt-rotation-box-requires c κs = (search lent-on, search is-scale)
 
 enum-known-rotation : tie.Need-enum-known-rotation Inv-loop μ-loop
 enum-known-rotation c = search needs
@@ -137,19 +137,11 @@ same-length-2 c =
     let tried = c .before .before .before .before .before .before in
     let ran = tried .before .before .before .before .before .before .before in
     let loop = ran .before .before .before in
-    ran-length (tried .attempt-rotation-box .ensures) ∙ ran-length (ran .corrected-center .ensures)
-    ∙ loop .loop .inv .sized ∙ sym (loop .before .before .before .pre .0)
+    ran-length (tried .attempt-rotation-box .ensures) ∙ ran-length (ran .with-corrected-center .ensures)
+    ∙ loop .loop .inv .lent .lent .image .sized ∙ sym (loop .before .before .before .pre .lent .image .sized)
 
 returns-2 : tie.Need-returns-2 Inv-loop μ-loop
-returns-2 c =
-    let tried = c .before .before .before .before .before .before in
-    let percent = tried .before .before in
-    let outside = percent .before in
-    let asked = outside .before in
-    let ran = asked .before .before .before in
-    let turn = ran .before .before in
-    found (turn .before .loop .inv) (turn .loop-test .taken) (ran .corrected-center .ensures) (answered (asked .is-outside .ensures) (outside .if1 .left))
-    (percent .accepted-scale .ensures) (tried .attempt-rotation-box .ensures) (search needs) (c .turned-by .ensures)
+returns-2 c = search found
 
 enum-told : tie.Need-enum-told Inv-loop μ-loop
 enum-told c = search needs
@@ -168,7 +160,7 @@ loop-again c =
     let asked = outside .before in
     let ran = asked .before .before .before in
     let turn = ran .before .before in
-    onward (turn .before .loop .inv) (turn .loop-test .taken) (ran .corrected-center .ensures) (answered (asked .is-outside .ensures) (outside .if1 .left))
+    onward (turn .before .loop .inv) (turn .loop-test .taken) (ran .with-corrected-center .ensures) (asked .is-outside .ensures) (outside .if1 .left)
     (percent .accepted-scale .ensures) (tried .attempt-rotation-box .ensures) (c .enum-told .given .1)
 
 not-turned-requires : tie.Need-not-turned-requires Inv-loop μ-loop
@@ -187,7 +179,7 @@ try-scales-spec =
     Inv-loop
     μ-loop
     loop-holds
-    corrected-center-requires
+    with-corrected-center-requires
     is-outside-requires
     lost-at-requires
     same-length

@@ -1,5 +1,5 @@
 -- `detector_walks::goes_on` meets its contract: the pixel's run, at the turned point's pixel. Each cast to f32 loses nothing. Assumes nothing.
-use Prim.Native.Nat.{ℕ, _^_, _≤_, _<_}
+use Prim.Native.Nat.{ℕ, _^_, _≤_}
 use mathlib.Core.Bool.{Bool}
 use mathlib.Core.List.{List}
 use mathlib.Core.Path.{_≡_}
@@ -7,9 +7,12 @@ use native.Mathlib.Omega.{arith}
 use borrow.Author.Needs.{needs}
 use lib.Dec.{T, le→leb}
 use lib.IntN.{pos}
-use lib.Ieee.{Float, binary32, add, sub, mul, toUnsigned, inFloat}
+use lib.Ieee.{binary32, add, sub, mul, toUnsigned, inFloat}
 use Rattle.ieee.specs.Sign.{abs}
 use Rattle.reads.specs.Runs.{Ran}
+use Rattle.bit_matrix.specs.declared.Shape.{Shape}
+use Rattle.bit_matrix.specs.Shape.{Limits, Inside}
+use Rattle.sines.specs.declared.Angle.{Angle}
 use Rattle.rxing_result_point.specs.declared.PointU.{PointU}
 use Rattle.rxing_result_point.specs.Points.{past, real, turned}
 use Rattle.detector_walks.specs.Walks.{walkPoint, whitePixel, whitePoint}
@@ -20,22 +23,26 @@ exact : (n : ℕ) → n ≤ 2 ^ 24 → T (inFloat binary32 (pos n))
 unfolding inFloat
 exact n h = le→leb n (2 ^ 24) h
 
-exact-small : (n : ℕ) → n < 2048 → T (inFloat binary32 (pos n))
-exact-small n h = exact n (omega arith)
+module _ {shape : Shape} {x y : ℕ} (limits : Limits shape) (inside : Inside shape x y) where
+  exact-column : T (inFloat binary32 (pos x))
+  exact-column = exact x (omega (arith, limits .width-most, inside .column))
 
-looked : {words marks after : List ℕ} {white : Bool} (rowWords size column row : ℕ) (center : PointU) (sin cos : Float) (x : ℕ)
-    → column ≡ toUnsigned 32 (abs (add binary32 (sub binary32 (mul binary32 cos (past (center .x) x)) (mul binary32 sin (past (center .y) (center .y)))) (real (center .x))))
-    → row ≡ toUnsigned 32 (abs (add binary32 (add binary32 (mul binary32 sin (past (center .x) x)) (mul binary32 cos (past (center .y) (center .y)))) (real (center .y))))
-    → Ran (whitePixel rowWords size column row) words marks white after
-    → Ran (whitePoint rowWords size (walkPoint center sin cos x)) words marks white after
+  exact-row : T (inFloat binary32 (pos y))
+  exact-row = exact y (omega (arith, limits .height-most, inside .row))
+
+looked : {words marks after : List ℕ} {white : Bool} (shape : Shape) (column row : ℕ) (center : PointU) (angle : Angle) (x : ℕ)
+    → column ≡ toUnsigned 32 (abs (add binary32 (sub binary32 (mul binary32 (angle .cos) (past (center .x) x)) (mul binary32 (angle .sin) (past (center .y) (center .y)))) (real (center .x))))
+    → row ≡ toUnsigned 32 (abs (add binary32 (add binary32 (mul binary32 (angle .sin) (past (center .x) x)) (mul binary32 (angle .cos) (past (center .y) (center .y)))) (real (center .y))))
+    → Ran (whitePixel shape column row) words marks white after
+    → Ran (whitePoint shape (walkPoint center angle x)) words marks white after
 unfolding turned
-looked rowWords size column row center sin cos x e f ran = rw (e, f) at ran
+looked shape column row center angle x e f ran = rw (e, f) at ran
 
 int-to-float-cx : tie.Need-int-to-float-cx
-int-to-float-cx c = search exact-small
+int-to-float-cx c = search exact-column
 
 int-to-float-cy : tie.Need-int-to-float-cy
-int-to-float-cy c = search exact-small
+int-to-float-cy c = search exact-row
 
 int-to-float-u : tie.Need-int-to-float-u
 int-to-float-u c = search exact

@@ -9,95 +9,101 @@ use mathlib.Core.Path.{_≡_, refl, _∙_, sym}
 use native.Mathlib.Decide.{ℕ-discrete}
 use native.Mathlib.Omega.{arith}
 use borrow.Author.Needs.{needs}
-use lib.Ieee.{Float}
 use lib.ListN.{length}
 use Rattle.reads.specs.Reads.{Reads, done}
 use Rattle.reads.specs.Runs.{Ran, Resumes}
 use Rattle.reads.specs.RunsLaws.{ran-is, resumes-start, resumes-step, resumes-then, resumes-else, resumes-end}
+use Rattle.bit_matrix.specs.declared.Shape.{Shape}
+use Rattle.bit_matrix.specs.Shape.{Limits, Inside}
+use Rattle.sines.specs.declared.Angle.{Angle}
 use Rattle.sines.specs.Rules.{scaled}
 use Rattle.rxing_result_point.specs.declared.Point.{Point}
 use Rattle.rxing_result_point.specs.declared.PointU.{PointU}
-use Rattle.detector_walks.specs.Walks.{walkPoint, whitePoint, leftFrom, rightFrom, firstColumn, walk, stepsRight, CenterWithin, Slanted}
+use Rattle.detector_walks.specs.Walks.{walkPoint, whitePoint, leftFrom, rightFrom, firstColumn, walk, stepsRight, Slanted}
 use Rattle.detector_walks.specs.StepsLaws.{steps-some}
 use Rattle.detector_walks.specs.WalksLaws.{before-end}
 use Rattle.detector_walks.proofs.walk.Statement.{statement}
 use Rattle.detector_walks.proofs.walk.Tie as tie
 
-module _ (words : List ℕ) (rowWords : ℕ) (center : PointU) (sin cos : Float) where
+module _ (words : List ℕ) (shape : Shape) (center : PointU) (angle : Angle) where
   -- what is left in column x, and how many steps at most
   abbrev rest : Bool → ℕ → Reads Point
-  rest true x = leftFrom rowWords (length words) center sin cos x
-  rest false x = rightFrom rowWords (length words) center sin cos (suc (center .x + stepsRight sin - x)) x
+  rest true x = leftFrom shape center angle x
+  rest false x = rightFrom shape center angle (suc (center .x + stepsRight (angle .sin) - x)) x
 
   abbrev steps : Bool → ℕ → ℕ
   steps true x = x
-  steps false x = center .x + stepsRight sin - x
+  steps false x = center .x + stepsRight (angle .sin) - x
 
   record Walking (marks₀ : List ℕ) (left : Bool) (marks : List ℕ) (x : ℕ) : Type 0 where
     sized : length marks ≡ length words
     low : x ≤ 2 ^ 24
-    near : left ≡ false → x ≤ center .x + stepsRight sin
-    resumes : Resumes words (rest left x) marks (walk rowWords (length words) center sin cos left) marks₀
+    near : left ≡ false → x ≤ center .x + stepsRight (angle .sin)
+    resumes : Resumes words (rest left x) marks (walk shape center angle left) marks₀
 
-  begins : {marks : List ℕ} (left : Bool) {x : ℕ} → CenterWithin (length words) rowWords center → length marks ≡ length words → x ≡ firstColumn center left
-      → Walking marks left marks x
+  begins : {marks : List ℕ} (left : Bool) {x : ℕ} → Limits shape → Inside shape (center .x) (center .y) → length marks ≡ length words
+      → x ≡ firstColumn center left → Walking marks left marks x
   unfolding walk
-  begins true within same e = record { sized = same; low = omega (arith, within .left, e); near = λ f. absurd (true≢false f); resumes = rw e resumes-start }
-  begins false within same e =
-      let some = steps-some (scaled sin) in
-      let all : suc (center .x + stepsRight sin - (center .x + 1)) ≡ stepsRight sin = omega arith in
-      record { sized = same; low = omega (arith, within .left, e); near = λ f. rw e (omega (arith, some)); resumes = rw (e, all) resumes-start }
+  begins true {x} limits inside same e =
+      let low : x ≤ 2 ^ 24 = omega (arith, limits .width-most, inside .column, e) in
+      record { sized = same; low = low; near = λ f. absurd (true≢false f); resumes = rw e resumes-start }
+  begins false {x} limits inside same e =
+      let some = steps-some (scaled (angle .sin)) in
+      let all : suc (center .x + stepsRight (angle .sin) - (center .x + 1)) ≡ stepsRight (angle .sin) = omega arith in
+      let low : x ≤ 2 ^ 24 = omega (arith, limits .width-most, inside .column, e) in
+      record { sized = same; low = low; near = λ f. rw e (omega (arith, some)); resumes = rw (e, all) resumes-start }
 
   module _ {marks₀ marks : List ℕ} {x : ℕ} {white : Bool} {after : List ℕ}
-      (ran : Ran (whitePoint rowWords (length words) (walkPoint center sin cos x)) words marks white after) where
+      (ran : Ran (whitePoint shape (walkPoint center angle x)) words marks white after) where
     -- to the left
     module _ (walking : Walking marks₀ true marks x) where
-      ends-at-0 : {p : Point} → p ≡ walkPoint center sin cos x → x ≡ 0 → Ran (walk rowWords (length words) center sin cos true) words marks₀ p after
+      ends-at-0 : {p : Point} → p ≡ walkPoint center angle x → x ≡ 0 → Ran (walk shape center angle true) words marks₀ p after
       unfolding leftFrom
       ends-at-0 is none = resumes-end (ran-is (rw none at is)) (resumes-step _ (rw none at ran) (rw none at (walking .resumes)))
 
-      step : x ≢ 0 → Resumes words (cond white (leftFrom rowWords (length words) center sin cos (x - 1)) (done (walkPoint center sin cos x))) after
-          (walk rowWords (length words) center sin cos true) marks₀
+      step : x ≢ 0 → Resumes words (cond white (leftFrom shape center angle (x - 1)) (done (walkPoint center angle x))) after
+          (walk shape center angle true) marks₀
       unfolding leftFrom
       step some =
           let back : x ≡ suc (x - 1) = omega arith in
           rw (← back) at (resumes-step _ (rw back at ran) (rw back at (walking .resumes)))
 
     -- to the right
-    module _ (walking : Walking marks₀ false marks x) (within : CenterWithin (length words) rowWords center) (slanted : Slanted sin cos) (e : white ≡ true) where
-      before : x < center .x + stepsRight sin
-      before = before-end center sin cos slanted words rowWords within x (walking .near refl) (ran .result) e
+    module _ (walking : Walking marks₀ false marks x) (limits : Limits shape) (inside : Inside shape (center .x) (center .y))
+        (slanted : Slanted angle) (e : white ≡ true) where
+      before : x < center .x + stepsRight (angle .sin)
+      before = before-end center angle slanted words limits inside x (walking .near refl) (ran .result) e
 
       room-right : x + 1 < 2 ^ 32
-      room-right = omega (arith, before, slanted .few, within .left)
+      room-right = omega (arith, before, slanted .few, limits .width-most, inside .column)
 
-      nearer : center .x + stepsRight sin - (x + 1) < center .x + stepsRight sin - x
+      nearer : center .x + stepsRight (angle .sin) - (x + 1) < center .x + stepsRight (angle .sin) - x
       nearer = omega (arith, before)
 
       past : length after ≡ length marks → Walking marks₀ false after (x + 1)
       unfolding rightFrom
       past kept =
-          let fuel : center .x + stepsRight sin - x ≡ suc (center .x + stepsRight sin - (x + 1)) = omega (arith, before) in
+          let fuel : center .x + stepsRight (angle .sin) - x ≡ suc (center .x + stepsRight (angle .sin) - (x + 1)) = omega (arith, before) in
           record {
             sized = kept ∙ walking .sized;
-            low = omega (arith, before, slanted .few, within .left);
+            low = omega (arith, before, slanted .few, limits .width-most, inside .column);
             near = λ f. omega (arith, before);
             resumes = resumes-then _ _ e (resumes-step _ ran (rw fuel at (walking .resumes)));
           }
 
     -- either way, by what the code tests
-    stops : (left : Bool) → Walking marks₀ left marks x → {p : Point} → p ≡ walkPoint center sin cos x → white ≡ false
-        → Ran (walk rowWords (length words) center sin cos left) words marks₀ p after
+    stops : (left : Bool) → Walking marks₀ left marks x → {p : Point} → p ≡ walkPoint center angle x → white ≡ false
+        → Ran (walk shape center angle left) words marks₀ p after
     unfolding rightFrom
     stops false walking is e = resumes-end (ran-is is) (resumes-else _ _ e (resumes-step _ ran (walking .resumes)))
     stops true walking {p} is e = go (ℕ-discrete x 0)
       where
-        go : Dec (x ≡ 0) → Ran (walk rowWords (length words) center sin cos true) words marks₀ p after
+        go : Dec (x ≡ 0) → Ran (walk shape center angle true) words marks₀ p after
         go (yes none) = ends-at-0 walking is none
         go (no some) = resumes-end (ran-is is) (resumes-else _ _ e (step walking some))
 
-    stops-at-0 : (left : Bool) → left ≡ true → Walking marks₀ left marks x → {p : Point} → p ≡ walkPoint center sin cos x → x ≡ 0
-        → Ran (walk rowWords (length words) center sin cos left) words marks₀ p after
+    stops-at-0 : (left : Bool) → left ≡ true → Walking marks₀ left marks x → {p : Point} → p ≡ walkPoint center angle x → x ≡ 0
+        → Ran (walk shape center angle left) words marks₀ p after
     stops-at-0 true l walking is none = ends-at-0 walking is none
     stops-at-0 false l walking is none = absurd (true≢false (sym l))
 
@@ -110,28 +116,28 @@ module _ (words : List ℕ) (rowWords : ℕ) (center : PointU) (sin cos : Float)
     }
     onward-left false l walking some e kept = absurd (true≢false (sym l))
 
-    module _ (within : CenterWithin (length words) rowWords center) (slanted : Slanted sin cos) where
+    module _ (limits : Limits shape) (inside : Inside shape (center .x) (center .y)) (slanted : Slanted angle) where
       onward-right : (left : Bool) → left ≡ false → Walking marks₀ left marks x → white ≡ true → length after ≡ length marks → Walking marks₀ left after (x + 1)
       onward-right true l walking e kept = absurd (true≢false l)
-      onward-right false l walking e kept = past walking within slanted e kept
+      onward-right false l walking e kept = past walking limits inside slanted e kept
 
       fewer-right : (left : Bool) → left ≡ false → Walking marks₀ left marks x → white ≡ true → steps left (x + 1) < steps left x
       fewer-right true l walking e = absurd (true≢false l)
-      fewer-right false l walking e = nearer walking within slanted e
+      fewer-right false l walking e = nearer walking limits inside slanted e
 
       room : (left : Bool) → left ≡ false → Walking marks₀ left marks x → white ≡ true → x + 1 < 2 ^ 32
       room true l walking e = absurd (true≢false l)
-      room false l walking e = room-right walking within slanted e
+      room false l walking e = room-right walking limits inside slanted e
 
   fewer-left : (left : Bool) → left ≡ true → {x : ℕ} → x ≢ 0 → steps left (x - 1) < steps left x
   fewer-left true l some = omega arith
   fewer-left false l some = absurd (true≢false (sym l))
 
 abbrev Inv-loop : tie.InvT-loop
-Inv-loop words marks₀ row-words center sin cos left x₀ marks x = Walking words row-words center sin cos marks₀ left marks x
+Inv-loop words marks₀ shape center angle left x₀ marks x = Walking words shape center angle marks₀ left marks x
 
 abbrev μ-loop : tie.MeasureT-loop
-μ-loop words marks₀ row-words center sin cos left x₀ marks x = steps words row-words center sin cos left x
+μ-loop words marks₀ shape center angle left x₀ marks x = steps words shape center angle left x
 
 first-column-requires : tie.Need-first-column-requires Inv-loop μ-loop
 first-column-requires c κs = search needs

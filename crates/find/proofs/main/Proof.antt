@@ -5,6 +5,7 @@ use mathlib.Core.Path.{_≡_, sym, subst⁻¹}
 use lib.ListN.{length, take, replicate, length-replicate}
 use lib.Seq.{length-take-le}
 use borrow.Author.Needs.{needs}
+use Rattle.crop.specs.CropLaws.{checked-rows}
 use Rattle.find.proofs.main.Statement.{statement}
 use Rattle.find.proofs.main.Tie as tie
 
@@ -27,37 +28,40 @@ read-full-requires c κs = search needs
 array-share-prefix-input : tie.Need-array-share-prefix-input
 array-share-prefix-input c = search needs
 
-slice-aggregate-lent-words : tie.Need-slice-aggregate-lent-words
-slice-aggregate-lent-words c = search needs
+slice-aggregate-check-file : tie.Need-slice-aggregate-check-file
+slice-aggregate-check-file c = search needs
+
+check-file-requires : tie.Need-check-file-requires
+check-file-requires c κs = search needs
 
 lent-words-requires : tie.Need-lent-words-requires
-lent-words-requires c κs = search needs
+lent-words-requires c κs = search checked-rows
 
 array-share-prefix-input-2 : tie.Need-array-share-prefix-input-2
 array-share-prefix-input-2 c = search needs
 
-slice-aggregate-search-file : tie.Need-slice-aggregate-search-file
-slice-aggregate-search-file c = search needs
+slice-aggregate-search-checked : tie.Need-slice-aggregate-search-checked
+slice-aggregate-search-checked c = search needs
 
 array-borrow-prefix-words : tie.Need-array-borrow-prefix-words
-array-borrow-prefix-words c = search needs
+array-borrow-prefix-words c = let lent = c .before in lent .lent-words .ensures _ (lent .before .check-file .ensures) .1
 
-slice-aggregate-search-file-2 : tie.Need-slice-aggregate-search-file-2
+slice-aggregate-search-checked-2 : tie.Need-slice-aggregate-search-checked-2
 unfolding zeros
-slice-aggregate-search-file-2 c = part _ (c .before .before .lent-words .ensures .1)
+slice-aggregate-search-checked-2 c = let lent = c .before .before in part _ (lent .lent-words .ensures _ (lent .before .check-file .ensures) .1)
 
-slice-aggregate-search-file-3 : tie.Need-slice-aggregate-search-file-3
-slice-aggregate-search-file-3 c = search needs
+slice-aggregate-search-checked-3 : tie.Need-slice-aggregate-search-checked-3
+slice-aggregate-search-checked-3 c = search needs
 
 array-borrow-prefix-marks : tie.Need-array-borrow-prefix-marks
-array-borrow-prefix-marks c = search needs
+array-borrow-prefix-marks c = let lent = c .before .before .before in lent .lent-words .ensures _ (lent .before .check-file .ensures) .1
 
-slice-aggregate-search-file-4 : tie.Need-slice-aggregate-search-file-4
+slice-aggregate-search-checked-4 : tie.Need-slice-aggregate-search-checked-4
 unfolding zeros
-slice-aggregate-search-file-4 c = part _ (c .before .before .before .before .lent-words .ensures .1)
+slice-aggregate-search-checked-4 c = let lent = c .before .before .before .before in part _ (lent .lent-words .ensures _ (lent .before .check-file .ensures) .1)
 
-search-file-requires : tie.Need-search-file-requires
-search-file-requires c κs = search needs
+search-checked-requires : tie.Need-search-checked-requires
+search-checked-requires c κs = search needs
 
 print-report-requires : tie.Need-print-report-requires
 print-report-requires c κs = search needs
@@ -82,16 +86,17 @@ main-spec =
     slice-aggregate-read-full
     read-full-requires
     array-share-prefix-input
-    slice-aggregate-lent-words
+    slice-aggregate-check-file
+    check-file-requires
     lent-words-requires
     array-share-prefix-input-2
-    slice-aggregate-search-file
+    slice-aggregate-search-checked
     array-borrow-prefix-words
-    slice-aggregate-search-file-2
-    slice-aggregate-search-file-3
+    slice-aggregate-search-checked-2
+    slice-aggregate-search-checked-3
     array-borrow-prefix-marks
-    slice-aggregate-search-file-4
-    search-file-requires
+    slice-aggregate-search-checked-4
+    search-checked-requires
     print-report-requires
     slice-aggregate-print-records
     cast-print-records

@@ -7,22 +7,22 @@ use Rattle.records.proofs.clear.Statement.{statement}
 use Rattle.records.proofs.clear.Tie as tie
 
 abbrev Inv-loop : tie.InvT-loop
-Inv-loop words₀ from count k₀ words k = Copied count from words₀ (replicate count 0) words k
+Inv-loop records₀ from count k₀ records k = Copied count from records₀ (replicate count 0) records k
 
 abbrev μ-loop : tie.MeasureT-loop
-μ-loop words₀ from count k₀ words k = count - k
+μ-loop records₀ from count k₀ records k = count - k
 
 loop-holds : tie.Need-loop-holds Inv-loop μ-loop
 loop-holds c = search (begins, length-replicate, needs)
 
-add-words : tie.Need-add-words Inv-loop μ-loop
-add-words c = search needs
+add-records : tie.Need-add-records Inv-loop μ-loop
+add-records c = search needs
 
-mul-words : tie.Need-mul-words Inv-loop μ-loop
-mul-words c = search needs
+mul-records : tie.Need-mul-records Inv-loop μ-loop
+mul-records c = search needs
 
-slice-write-words : tie.Need-slice-write-words Inv-loop μ-loop
-slice-write-words c = search needs
+slice-write-records : tie.Need-slice-write-records Inv-loop μ-loop
+slice-write-records c = search needs
 
 add-k : tie.Need-add-k Inv-loop μ-loop
 add-k c = search needs
@@ -46,9 +46,9 @@ clear-spec =
     Inv-loop
     μ-loop
     loop-holds
-    add-words
-    mul-words
-    slice-write-words
+    add-records
+    mul-records
+    slice-write-records
     add-k
     loop-less
     loop-again

@@ -12,10 +12,10 @@ use Rattle.records.proofs.load.Statement.{statement}
 use Rattle.records.proofs.load.Tie as tie
 
 abbrev Inv-loop : tie.InvT-loop
-Inv-loop words i fields₀ k₀ fields k = Copied 40 0 (replicate 40 0) (get words i) fields k
+Inv-loop records i fields₀ k₀ fields k = Copied 40 0 (replicate 40 0) (get records i) fields k
 
 abbrev μ-loop : tie.MeasureT-loop
-μ-loop words i fields₀ k₀ fields k = 40 - k
+μ-loop records i fields₀ k₀ fields k = 40 - k
 
 loop-holds : tie.Need-loop-holds Inv-loop μ-loop
 loop-holds c = search (begins, length-get, needs)
@@ -47,7 +47,7 @@ loop-less c = search needs
 loop-again : tie.Need-loop-again Inv-loop μ-loop
 loop-again c =
     let k = c .before .before .loop .k in
-    onward (c .before .before .loop .inv) (search needs) (sym (zero-add k)) (sym (get-word (c .before .before .before .args .words .now) (c .before .before .before .args .i) k (search needs)))
+    onward (c .before .before .loop .inv) (search needs) (sym (zero-add k)) (sym (get-word (c .before .before .before .args .records .now) (c .before .before .before .args .i) k (search needs)))
 
 returns : tie.Need-returns Inv-loop μ-loop
 returns c = over (c .before .loop .inv) (search needs) ∙ append-nil _

@@ -7,31 +7,31 @@ use Rattle.records.proofs.store.Statement.{statement}
 use Rattle.records.proofs.store.Tie as tie
 
 abbrev Inv-loop : tie.InvT-loop
-Inv-loop words₀ i fields k₀ words k = Copied 40 (40 * i) words₀ fields words k
+Inv-loop records₀ i fields k₀ records k = Copied 40 (40 * i) records₀ fields records k
 
 abbrev μ-loop : tie.MeasureT-loop
-μ-loop words₀ i fields k₀ words k = 40 - k
+μ-loop records₀ i fields k₀ records k = 40 - k
 
 loop-holds : tie.Need-loop-holds Inv-loop μ-loop
 loop-holds c = search (begins, needs)
 
-mul-words : tie.Need-mul-words Inv-loop μ-loop
-mul-words c = search needs
+mul-records : tie.Need-mul-records Inv-loop μ-loop
+mul-records c = search needs
 
-element-copy-out-words : tie.Need-element-copy-out-words Inv-loop μ-loop
-element-copy-out-words c = search needs
+element-copy-out-records : tie.Need-element-copy-out-records Inv-loop μ-loop
+element-copy-out-records c = search needs
 
-mul-words-2 : tie.Need-mul-words-2 Inv-loop μ-loop
-mul-words-2 c = search needs
+mul-records-2 : tie.Need-mul-records-2 Inv-loop μ-loop
+mul-records-2 c = search needs
 
-add-words : tie.Need-add-words Inv-loop μ-loop
-add-words c = search needs
+add-records : tie.Need-add-records Inv-loop μ-loop
+add-records c = search needs
 
-mul-words-3 : tie.Need-mul-words-3 Inv-loop μ-loop
-mul-words-3 c = search needs
+mul-records-3 : tie.Need-mul-records-3 Inv-loop μ-loop
+mul-records-3 c = search needs
 
-slice-write-words : tie.Need-slice-write-words Inv-loop μ-loop
-slice-write-words c = search needs
+slice-write-records : tie.Need-slice-write-records Inv-loop μ-loop
+slice-write-records c = search needs
 
 add-k : tie.Need-add-k Inv-loop μ-loop
 add-k c = search needs
@@ -56,12 +56,12 @@ store-spec =
     Inv-loop
     μ-loop
     loop-holds
-    mul-words
-    element-copy-out-words
-    mul-words-2
-    add-words
-    mul-words-3
-    slice-write-words
+    mul-records
+    element-copy-out-records
+    mul-records-2
+    add-records
+    mul-records-3
+    slice-write-records
     add-k
     loop-less
     loop-again

@@ -4,11 +4,8 @@ use borrow.Author.Needs.{needs}
 use Rattle.rxing_result_point.proofs.get_point.Statement.{statement}
 use Rattle.rxing_result_point.proofs.get_point.Tie as tie
 
-sine-requires : tie.Need-sine-requires
-sine-requires c κs = search needs
-
-cosine-requires : tie.Need-cosine-requires
-cosine-requires c κs = search needs
+angle-of-requires : tie.Need-angle-of-requires
+angle-of-requires c κs = search needs
 
 turn-requires : tie.Need-turn-requires
 turn-requires c κs = search needs
@@ -17,4 +14,4 @@ returns : tie.Need-returns
 returns c = cc
 
 pub get-point-spec : {M : Type 1} → statement M
-get-point-spec = tie.close (tie.spec sine-requires cosine-requires turn-requires returns)
+get-point-spec = tie.close (tie.spec angle-of-requires turn-requires returns)

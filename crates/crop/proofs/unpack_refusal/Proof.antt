@@ -1,0 +1,34 @@
+-- `crop::unpack_refusal` meets its contract: at each return, the tests that led there decide the definition's. Assumes nothing.
+use Prim.Native.Nat.{ℕ}
+use mathlib.Core.Path.{_≡_, refl, sym, _∙_}
+use borrow.Author.Needs.{needs}
+use borrow.Author.Tests.{eq-eqb, ne-eqb}
+use Rattle.crop.specs.Chain.{chain-here, chain-next, not-holds, not-fails, else-kept, else-next}
+use Rattle.crop.specs.Crop.{unpackRoom, unpackAnswer}
+use Rattle.crop.proofs.unpack_refusal.Statement.{statement}
+use Rattle.crop.proofs.unpack_refusal.Tie as tie
+
+-- the lengths against the image's words, as they were worked out
+module _ {answer n needed : ℕ} (words : ℕ) (zero : answer ≡ 0) (is : n ≡ needed) where
+  misfitting : (words ≡ n → ⊥) → 6 ≡ unpackAnswer answer needed words
+  unfolding unpackRoom
+  misfitting other = else-next _ refl zero (chain-here _ _ (not-holds (ne-eqb words needed λ e. other (e ∙ sym is))) refl)
+
+  fitting : words ≡ n → 0 ≡ unpackAnswer answer needed words
+  unfolding unpackRoom
+  fitting same = else-next _ refl zero (chain-next _ _ (not-fails (eq-eqb words needed (same ∙ is))) refl)
+
+returns : tie.Need-returns
+returns c = search else-kept
+
+image-words-requires : tie.Need-image-words-requires
+image-words-requires c κs = search needs
+
+returns-2 : tie.Need-returns-2
+returns-2 c = search misfitting
+
+returns-3 : tie.Need-returns-3
+returns-3 c = search fitting
+
+pub unpack-refusal-spec : {M : Type 1} → statement M
+unpack-refusal-spec = tie.close (tie.spec returns image-words-requires returns-2 returns-3)

@@ -1,0 +1,16 @@
+-- Every record that is boxed stays one. Assumes nothing.
+use Prim.Native.Nat.{suc}
+use mathlib.Core.List.{List, [], _∷_}
+use mathlib.Core.Path.{_≡_, refl, ap}
+use lib.ListN.{length}
+use Rattle.reads.specs.Reads.{Always}
+use Rattle.reads.specs.ReadsLaws.{always-done, always-bind, always-after}
+use Rattle.bit_matrix.specs.declared.Shape.{Shape}
+use Rattle.records.specs.Records.{Record}
+use Rattle.detector_boxes.specs.Boxing.{boxedAll}
+
+pub boxed-length : (shape : Shape) (rs : List Record) → Always (λ (bs : List Record). length bs ≡ length rs) (boxedAll shape rs)
+unfolding boxedAll
+boxed-length shape [] = always-done refl
+boxed-length shape (r ∷ rs) =
+    always-after _ _ λ b. always-bind {Q = λ (bs : List Record). length bs ≡ length rs} _ (boxed-length shape rs) λ bs same. always-done (ap suc same)

@@ -1,0 +1,75 @@
+-- `step_exports::boxes::step_find_width_at_degree` meets its contract. Assumes nothing.
+use borrow.Author.Needs.{needs}
+use mathlib.Core.Path.{refl}
+use Rattle.crop.specs.CropLaws.{rows-of}
+use Rattle.step_exports.proofs.Guarding.{refuse-test, lent-as, lent-passed, lent-passed-as, answer}
+use Rattle.step_exports.proofs.Running.{sloped-walked, walked-ran}
+use Rattle.step_exports.proofs.boxes.step_find_width_at_degree.Statement.{statement}
+use Rattle.step_exports.proofs.boxes.step_find_width_at_degree.Tie as tie
+
+shape-in-requires : tie.Need-shape-in-requires
+shape-in-requires c κs = search needs
+
+element-copy-out-t17 : tie.Need-element-copy-out-t17
+element-copy-out-t17 c = search needs
+
+element-copy-out-t20 : tie.Need-element-copy-out-t20
+element-copy-out-t20 c = search needs
+
+is-lent-requires : tie.Need-is-lent-requires
+is-lent-requires c κs = search rows-of
+
+same-length : tie.Need-same-length
+same-length c = search needs
+
+returns : tie.Need-returns
+returns c = refuse-test (lent-as _ _ (search needs) (c .before .is-lent .ensures)) (c .if1 .taken) (λ f. f) (refl, refl, refl)
+
+table-requires : tie.Need-table-requires
+table-requires c κs = search needs
+
+walked-degree-requires : tie.Need-walked-degree-requires
+walked-degree-requires c κs = search needs
+
+find-width-at-degree-requires : tie.Need-find-width-at-degree-requires
+find-width-at-degree-requires c κs =
+    let s = c .before .before .before .before in
+    (lent-passed (s .before .is-lent .ensures) (s .if1 .left) (search needs), search sloped-walked)
+
+bits-of-f32-requires : tie.Need-bits-of-f32-requires
+bits-of-f32-requires c κs = search needs
+
+bits-of-f32-requires-2 : tie.Need-bits-of-f32-requires-2
+bits-of-f32-requires-2 c κs = search needs
+
+bits-of-f32-requires-3 : tie.Need-bits-of-f32-requires-3
+bits-of-f32-requires-3 c κs = search needs
+
+bits-of-f32-requires-4 : tie.Need-bits-of-f32-requires-4
+bits-of-f32-requires-4 c κs = search needs
+
+same-length-2 : tie.Need-same-length-2
+same-length-2 c = search needs
+
+returns-2 : tie.Need-returns-2
+returns-2 c = answer (search lent-passed-as) (refl, search walked-ran)
+
+pub step-find-width-at-degree-spec : {M : Type 1} → statement M
+step-find-width-at-degree-spec =
+    tie.close
+    (tie.spec
+    shape-in-requires
+    element-copy-out-t17
+    element-copy-out-t20
+    is-lent-requires
+    same-length
+    returns
+    table-requires
+    walked-degree-requires
+    find-width-at-degree-requires
+    bits-of-f32-requires
+    bits-of-f32-requires-2
+    bits-of-f32-requires-3
+    bits-of-f32-requires-4
+    same-length-2
+    returns-2)
