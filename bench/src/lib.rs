@@ -72,7 +72,7 @@ unsafe extern "C" {
         marks: *mut u64,
         marks_len: usize,
         numbers: &[u32; 4],
-        steep: bool,
+        degree: u32,
         out: &mut [u32; 4],
     ) -> u32;
 
@@ -228,7 +228,7 @@ pub fn find_width_at_degree(
     image: Image,
     marks: &mut [u64],
     (x, y): (u32, u32),
-    steep: bool,
+    degree: u32,
 ) -> Option<[u32; 4]> {
     filled(|out| unsafe {
         step_find_width_at_degree(
@@ -237,7 +237,7 @@ pub fn find_width_at_degree(
             marks.as_mut_ptr(),
             marks.len(),
             &[image.width, image.height, x, y],
-            steep,
+            degree,
             out,
         )
     })

@@ -258,17 +258,19 @@ impl Round<'_> {
 
     fn walks(&mut self, crop: &Crop) {
         let centre = self.pixel(crop);
-        let steep = self.random.one_in(2);
-        let ((_, ends), set) =
-            steps::width_at_degree(image(crop), centre, if steep { 97 } else { 7 });
+        let degree = match self.random.below(4) {
+            0 => self.random.pick(&[0, 7, 90, 97, 180, 270]),
+            _ => self.between(0, 359),
+        };
+        let ((_, ends), set) = steps::width_at_degree(image(crop), centre, degree);
         let [left, right] = ends.map(|end| (bits(end.0), bits(end.1)));
         let expected = [left.0, left.1, right.0, right.1];
         let ours =
-            |marks: &mut [u64]| bench::find_width_at_degree(image(crop), marks, centre, steep);
+            |marks: &mut [u64]| bench::find_width_at_degree(image(crop), marks, centre, degree);
         self.reading(
             "find_width_at_degree",
             crop,
-            (centre, steep),
+            (centre, degree),
             ours,
             (Some(expected), set),
         );

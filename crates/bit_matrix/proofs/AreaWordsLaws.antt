@@ -24,7 +24,7 @@ use Rattle.bit_matrix.specs.Shape as shapes
 use Rattle.bit_matrix.specs.Pixels.{offset, tryGet}
 use Rattle.bit_matrix.specs.PixelsLaws.{ran-pixel}
 use Rattle.bit_matrix.specs.Area.{Cell, countBlack, tryGetArea}
-use Rattle.bit_matrix.specs.AreaWords.{setBits, Counted, threeOf, nineOf, InWords}
+use Rattle.bit_matrix.specs.AreaWords.{setBits, CountedBits, threeOf, nineOf, InWords}
 use Rattle.bit_matrix.specs.declared.Sample.the-variants.{Inside}
 use Rattle.bit_matrix.specs.declared.Count.the-variants as count
 
@@ -75,7 +75,7 @@ module _ (q p : ℕ) (fits : 3 + p ≤ 64) where
 -- the code's shift and mask, at the word n that holds column x
 pub counted-three : (words marks : List ℕ) (shape : Shape) (x y n : ℕ) → n ≡ offset shape x y → length marks ≡ length words
     → offset shape x y < length words → 3 + x % 64 ≤ 64
-    → Counted words marks (threeOf shape x y)
+    → CountedBits words marks (threeOf shape x y)
     (bitAnd (getD words n 0 / 2 ^ (x % 64)) 1 + bitAnd (getD words n 0 / 2 ^ (x % 64) / 2 ^ 1) 1 + bitAnd (getD words n 0 / 2 ^ (x % 64) / 2 ^ 2) 1)
     (set marks n (bitOr (getD marks n 0) (7 * 2 ^ (x % 64) % 2 ^ 64)))
 counted-three words marks shape x y n e same h fits =
@@ -95,27 +95,27 @@ setBits-few words [] = omega arith
 setBits-few words (i ∷ is) = omega (arith, setBits-few words is, digit-low (bitAt words i))
 
 module _ {words : List ℕ} where
-  counted-append : {m₀ m₁ m₂ is js : List ℕ} {a b : ℕ} → Counted words m₀ is a m₁ → Counted words m₁ js b m₂ → Counted words m₀ (is ++ js) (a + b) m₂
+  counted-append : {m₀ m₁ m₂ is js : List ℕ} {a b : ℕ} → CountedBits words m₀ is a m₁ → CountedBits words m₁ js b m₂ → CountedBits words m₀ (is ++ js) (a + b) m₂
   counted-append {m₀} {is = is} {js} first second = record {
     black = omega (arith, setBits-append words is js, first .black, second .black);
     marked = second .marked ∙ ap (λ (l : List ℕ). markAll l js) (first .marked) ∙ sym (markAll-append m₀ is js);
   }
 
-  few : {m₀ m₁ is : List ℕ} {n : ℕ} → Counted words m₀ is n m₁ → n ≤ length is
+  few : {m₀ m₁ is : List ℕ} {n : ℕ} → CountedBits words m₀ is n m₁ → n ≤ length is
   few {is = is} counted = rw (counted .black) (setBits-few words is)
 
-  pub few-three : {m₀ m₁ : List ℕ} {n : ℕ} (shape : Shape) (x y : ℕ) → Counted words m₀ (threeOf shape x y) n m₁ → n ≤ 3
+  pub few-three : {m₀ m₁ : List ℕ} {n : ℕ} (shape : Shape) (x y : ℕ) → CountedBits words m₀ (threeOf shape x y) n m₁ → n ≤ 3
   unfolding range
   few-three shape x y counted = few counted
 
-  pub few-nine : {m₀ m₁ : List ℕ} {n : ℕ} (shape : Shape) (x y : ℕ) → Counted words m₀ (nineOf shape x y) n m₁ → n ≤ 9
+  pub few-nine : {m₀ m₁ : List ℕ} {n : ℕ} (shape : Shape) (x y : ℕ) → CountedBits words m₀ (nineOf shape x y) n m₁ → n ≤ 9
   unfolding range flatMap
   few-nine shape x y counted = few counted
 
   -- three rows of three
   pub counted-nine : {m₀ m₁ m₂ m₃ : List ℕ} {a b c : ℕ} (shape : Shape) (x y : ℕ)
-      → Counted words m₀ (threeOf shape x y) a m₁ → Counted words m₁ (threeOf shape x (y + 1)) b m₂ → Counted words m₂ (threeOf shape x (y + 2)) c m₃
-      → Counted words m₀ (nineOf shape x y) (a + b + c) m₃
+      → CountedBits words m₀ (threeOf shape x y) a m₁ → CountedBits words m₁ (threeOf shape x (y + 1)) b m₂ → CountedBits words m₂ (threeOf shape x (y + 2)) c m₃
+      → CountedBits words m₀ (nineOf shape x y) (a + b + c) m₃
   unfolding range flatMap setBits markAll
   counted-nine {m₃ = m₃} {a} {b} {c} shape x y first second third =
       let last : y + 2 ≡ y + 1 + 1 = omega arith in
@@ -191,7 +191,7 @@ module _ (words : List ℕ) (shape : Shape) (full : length words ≡ size shape)
 
   -- an area that lies in words
   pub area-in-words : {marks after : List ℕ} {x y n : ℕ} → InWords shape x y → length marks ≡ length words
-      → Counted words marks (nineOf shape (x - 1) (y - 1)) n after
+      → CountedBits words marks (nineOf shape (x - 1) (y - 1)) n after
       → Ran (tryGetArea shape x y) words marks (Inside (leb 9 (2 * n))) after
   unfolding tryGetArea range flatMap
   area-in-words {marks} {after} {x} {y} {n} inside sized counted =

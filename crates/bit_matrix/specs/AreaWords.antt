@@ -11,7 +11,7 @@ setBits words [] = 0
 setBits words (i ∷ is) = digit (bitAt words i) + setBits words is
 
 -- the bits of a list are counted, and marked
-pub record Counted (words before is : List ℕ) (count : ℕ) (after : List ℕ) : Type 0 where
+pub record CountedBits (words before is : List ℕ) (count : ℕ) (after : List ℕ) : Type 0 where
   pub black : count ≡ setBits words is
   pub marked : after ≡ markAll before is
 

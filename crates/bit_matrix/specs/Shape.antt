@@ -16,7 +16,7 @@ shapeOf width height = record { «row_words» = rowWords width; width = width; h
 abbrev pub size : Shape → ℕ
 size shape = shape .«row_words» * shape .height
 
--- the shape of an image that is not refused
+-- the shape of an image that is not refused; no entry takes a side below the least one here
 pub record Limits (shape : Shape) : Type 0 where
   pub rows : shape .«row_words» ≡ rowWords (shape .width)
   pub width-least : 33 ≤ shape .width

@@ -9,7 +9,7 @@ ghost use Rattle.reads.specs.Runs.{Ran};
 ghost use Rattle.bit_matrix.specs.Shape.{size, Limits, Image};
 ghost use Rattle.bit_matrix.specs.Pixels.{offset, pixel, outOfRange, tryGet, onesOf};
 ghost use Rattle.bit_matrix.specs.Area.{column, box, countBlack, tryGetArea};
-ghost use Rattle.bit_matrix.specs.AreaWords.{Counted, threeOf, nineOf, InWords};
+ghost use Rattle.bit_matrix.specs.AreaWords.{CountedBits, threeOf, nineOf, InWords};
 
 // An image's rows, of `row_words` words each, and how many columns and rows it has.
 pub struct Shape {
@@ -178,7 +178,7 @@ fn in_words(shape: Shape, x: u32, y: u32) -> bool
 // The black pixels of columns x to x + 2 of row y, which lie in one word.
 fn count_three(words: &[u64], marks: &mut [u64], shape: Shape, x: u32, y: u32) -> u64
     requires { ⌜ Image shape (now words) (now marks) × (3 + x % 64 ≤ 64) × (offset shape x y < length (now words)) ⌝ }
-    ensures { λ r. ⌜ Counted (now (words .entry)) (now (marks .entry)) (threeOf shape x y) r (now (marks .exit)) ⌝ }
+    ensures { λ r. ⌜ CountedBits (now (words .entry)) (now (marks .entry)) (threeOf shape x y) r (now (marks .exit)) ⌝ }
 {
     let offset = get_offset(shape, y, x);
     let shift = x % 64;
@@ -190,7 +190,7 @@ fn count_three(words: &[u64], marks: &mut [u64], shape: Shape, x: u32, y: u32) -
 // The same of rows y to y + 2.
 fn count_nine(words: &[u64], marks: &mut [u64], shape: Shape, x: u32, y: u32) -> u64
     requires { ⌜ Image shape (now words) (now marks) × (3 + x % 64 ≤ 64) × (y ≤ 2048) × (offset shape x (y + 2) < length (now words)) ⌝ }
-    ensures { λ r. ⌜ Counted (now (words .entry)) (now (marks .entry)) (nineOf shape x y) r (now (marks .exit)) ⌝ }
+    ensures { λ r. ⌜ CountedBits (now (words .entry)) (now (marks .entry)) (nineOf shape x y) r (now (marks .exit)) ⌝ }
 {
     let first = count_three(words, marks, shape, x, y);
     let second = count_three(words, marks, shape, x, y + 1);
@@ -220,10 +220,10 @@ pub fn try_get_area(words: &[u64], marks: &mut [u64], shape: Shape, x: u32, y: u
 pub fn clear(marks: &mut [u64])
     ensures { λ _. ⌜ now (marks .exit) ≡ zeros (length (now (marks .entry))) ⌝ }
 {
-    let mut i = 0;
-    while i < marks.len() {
-        marks[i] = 0;
-        i += 1;
+    let mut cleared = 0;
+    while cleared < marks.len() {
+        marks[cleared] = 0;
+        cleared += 1;
     }
 }
 

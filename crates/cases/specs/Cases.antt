@@ -20,9 +20,10 @@ use Rattle.bit_matrix.specs.declared.Sample.the-variants.{Inside}
 use Rattle.rxing_result_point.specs.Points.{real}
 use Rattle.detector_widths.specs.Widths.{evenRunsPass, oddRunsPass, validWidths}
 use Rattle.detector_widths.specs.Buckets.{bump}
-use Rattle.detector_rows.specs.Rows.{total, metadata, none, skipWhite, windowBy, nextBullseyeBy, nextBullseye}
+use Rattle.reads.specs.Total.{total}
+use Rattle.detector_rows.specs.Rows.{metadata, none, skipWhite, windowBy, nextBullseyeBy, nextBullseye}
 use Rattle.detector_rows.specs.declared.Bullseye.{Bullseye}
-use Rattle.detector_variance.specs.Variance.{variance}
+use Rattle.detector_variance.specs.Variance.{circleVariance}
 use Rattle.records.specs.Records.{Record, filter}
 use Rattle.detector_kept.specs.Spread.{spread}
 use Rattle.detector_kept.specs.Retain.{near, retain}
@@ -30,7 +31,9 @@ use Rattle.detector_boundary.specs.Size.{idealSide, guessedSize, plainSize}
 use Rattle.detector_boundary.specs.Boundary.{leftShift, rightShift, boundaryOf, plainBoundary}
 use Rattle.detector_boundary.specs.declared.Boundary.{Boundary}
 use Rattle.detector_points.specs.Orientation.{point, adjustedPoint}
-use Rattle.detector_turn.specs.Outcomes.{quarterOf}
+use Rattle.detector_turn.specs.Outcomes.{quarterOf, classOf}
+use Rattle.detector_turn.specs.Scales.{turnedBy}
+use Rattle.rxing_result_point.specs.declared.PointU.{PointU}
 
 -- eleven runs of one length
 abbrev pub equal : ℕ → List ℕ
@@ -77,7 +80,7 @@ pub record Cases : Type 0 where
   pub five-of-nine : map areaOfNine (withOnes 5 (2 ^ 9)) ≡ replicate 126 (Inside true)
   pub four-of-nine : map areaOfNine (withOnes 4 (2 ^ 9)) ≡ replicate 126 (Inside false)
   -- row and column runs
-  pub runs-all-10 : variance (equal 10) (equal 10) ≡ real 10
+  pub runs-all-10 : circleVariance (equal 10) (equal 10) ≡ real 10
   -- three candidates by their centres, whatever their other words a, b and d: the deviation of y is the root of 8 / 3, 1
   pub second-kept : (a b d : List ℕ) → keptOf ((50 ∷ 20 ∷ a) ∷ (50 ∷ 22 ∷ b) ∷ (50 ∷ 24 ∷ d) ∷ []) ≡ (50 ∷ 22 ∷ b) ∷ []
   -- radius 6; about (60, 60) in 120 by 120
@@ -87,14 +90,14 @@ pub record Cases : Type 0 where
   pub bottom-0 : adjustedPoint (raised 0) (point 10 9) ≡ point 22 19
   pub bottom-50 : adjustedPoint (raised 50) (point 10 9) ≡ point 22 65
   -- classes of turns: the one line there without a P
-  pub turn-44 : quarterOf 44 ≡ 0
-  pub turn-46 : quarterOf 46 ≡ 1
-  pub turn-348 : quarterOf 348 ≡ 0
+  pub turn-44 : (scale : ℕ) (center : PointU) → classOf (turnedBy 44 scale center) ≡ 0
+  pub turn-46 : (scale : ℕ) (center : PointU) → classOf (turnedBy 46 scale center) ≡ 1
+  pub turn-348 : (scale : ℕ) (center : PointU) → classOf (turnedBy 348 scale center) ≡ 0
 
 pub cases : Cases
 unfolding ones toSigned floor _>>=_ value testBit bitAt range valueOf flatMap pixel tryGet countBlack tryGetArea
     evenRunsPass oddRunsPass validWidths bump total metadata skipWhite windowBy nextBullseyeBy
-    variance filter spread near idealSide guessedSize leftShift rightShift boundaryOf adjustedPoint quarterOf
+    circleVariance filter spread near idealSide guessedSize leftShift rightShift boundaryOf adjustedPoint quarterOf
 cases = record {
   runs-all-1 = refl;
   even-run-1-among-2s = refl;
@@ -111,7 +114,7 @@ cases = record {
   radius-6-boundary = refl;
   bottom-0 = refl;
   bottom-50 = refl;
-  turn-44 = refl;
-  turn-46 = refl;
-  turn-348 = refl;
+  turn-44 = λ scale center. refl;
+  turn-46 = λ scale center. refl;
+  turn-348 = λ scale center. refl;
 }

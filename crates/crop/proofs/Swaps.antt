@@ -70,8 +70,8 @@ abbrev pub swap : ℕ → ℕ → ℕ → ℕ
 swap x d m = bitOr (bitAnd (x / 2 ^ d) m) (bitAnd x m * 2 ^ d % 2 ^ 64)
 
 -- the place from which bit k comes
-abbrev pub origin : ℕ → ℕ → ℕ → ℕ
-origin d m k = cond (testBit m k) (d + k) (k - d)
+abbrev pub swap-origin : ℕ → ℕ → ℕ → ℕ
+swap-origin d m k = cond (testBit m k) (d + k) (k - d)
 
 -- two bits are the same
 abbrev pub same : Bool → Bool → Bool
@@ -123,7 +123,7 @@ module _ (x d m k : ℕ) (word : k < 64) (fit : unfit d m k ≡ false) where
   at-origin true = refl
   at-origin false = refl
 
-  pub test-swap : testBit (swap x d m) k ≡ testBit x (origin d m k)
+  pub test-swap : testBit (swap x d m) k ≡ testBit x (swap-origin d m k)
   test-swap =
       test-or (bitAnd (x / 2 ^ d) m) (bitAnd x m * 2 ^ d % 2 ^ 64) k
       ∙ ap₂ _||_ (test-and (x / 2 ^ d) m k ∙ ap (λ (b : Bool). b && testBit m k) (test-shr x d k)) upper

@@ -27,6 +27,7 @@ use Rattle.detector.specs.DetectorLaws.{is-accepted}
 
 -- a run of an accepted image of this shape, whose bits are those of `words`, with these records and marks that fit lent, leaves `left`
 pub record Accepted (shape : Shape) (words records : List ℕ) (left : Run) : Type 0 where
+  -- the zeros stand for any marks that fit
   pub accepted : WordsAccepted shape words (zeros (size shape)) records
   pub searched : left ≡ acceptedRun shape words records
 

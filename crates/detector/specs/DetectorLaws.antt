@@ -1,25 +1,30 @@
--- The entries' definitions by parts: an accepted image is searched, a refused one leaves all as it was. Assumes nothing.
+-- The entries' definitions by parts: an accepted image is searched, a refused one leaves all as it was; and no run keeps more records than there is room for
+-- (`file-few`). Assumes nothing.
 use Prim.Native.Nat.{ℕ, _*_, _≤_}
 use native.Mathlib.Omega.{arith}
+use mathlib.Core.Bool.{Bool, true, false}
 use mathlib.Core.List.{List}
 use mathlib.Core.Path.{_≡_, refl, sym, ap, ap₂, _∙_}
-use borrow.Author.Tests.{eq-eqb, ne-eqb}
+use borrow.Author.Tests.{eqb-true, eq-eqb, ne-eqb}
+use lib.Dec.{eqb}
 use lib.ListN.{length}
-use Rattle.reads.specs.Bits.{zeros}
+use Rattle.reads.specs.Bits.{bitAt, zeros}
 use Rattle.reads.specs.Runs.{valueOf, marksOf}
 use Rattle.bit_matrix.specs.declared.Shape.{Shape}
-use Rattle.bit_matrix.specs.Shape.{shapeOf, size, Image}
+use Rattle.bit_matrix.specs.Shape.{shapeOf, size, Limits, Image}
 use Rattle.bit_matrix.specs.Pixels.{onesOf}
 use Rattle.crop.specs.Chain.{chain-here, chain-next}
 use Rattle.crop.specs.Crop.{fileShape, wordsRefusal, fileRefusal, fileAnswer, Checks, FileAccepted, WordsAccepted, FileReady, leastSide}
-use Rattle.crop.specs.CropLaws.{words-accepted, file-refusal-by, ready-shape, file-ready-by}
+use Rattle.crop.specs.CropLaws.{words-accepted, file-ready, file-refusal-by, ready-shape, file-ready-by}
 use Rattle.crop.specs.Unpack.{unpacked, image}
 use Rattle.crop.specs.UnpackLaws.{length-unpacked}
 use Rattle.crop.specs.declared.Checked.{Checked}
 use Rattle.records.specs.Records.{capacityOf, laidOut}
 use Rattle.detector_candidates.specs.Candidates.{Room}
 use Rattle.detector_verdict.specs.declared.Counts.{Counts}
+use Rattle.detector_verdict.specs.VerdictLaws.{counted-few}
 use Rattle.detector_search.specs.Search.{searchAt, Sought}
+use Rattle.detector_search.specs.SearchLaws.{search-counted}
 use Rattle.detector.specs.Detector.{Run, run, reportOf, refusedReport, refusedRun, steps, acceptedRun, refusedOr, wordsRun, filed, fileRun}
 use Rattle.detector.specs.declared.Report.{Report}
 
@@ -94,8 +99,8 @@ module _ (file words records marks : List ℕ) {c : Checked} (checks : Checks fi
     ready : FileReady (c .shape) file words marks records
     ready = file-ready-by checks words marks records is none
 
-    pub file-accepted : FileAccepted (c .shape) file
-    file-accepted = ready .accepted
+    pub checked-accepted : FileAccepted (c .shape) file
+    checked-accepted = ready .accepted
 
     pub file-size : length words ≡ size (c .shape)
     file-size = ready .image .stored
@@ -116,3 +121,20 @@ module _ (file words records marks : List ℕ) {c : Checked} (checks : Checks fi
           let words-are : words′ ≡ image file = stored ∙ ap (unpacked file) shape-is in
           ap₂ filed words-are (searched ∙ ap₂ (λ (s : Shape) (l : List ℕ). acceptedRun s l records) shape-is words-are)
           ∙ is-accepted _ _ (sym number-is ∙ none)
+
+-- ---- no run keeps more records than there is room for
+
+accepted-few : {shape : Shape} (words records : List ℕ) → Limits shape → (acceptedRun shape words records) .report .kept ≤ capacityOf (length records)
+unfolding acceptedRun valueOf
+accepted-few {shape} words records limits = counted-few (search-counted shape (capacityOf (length records)) limits .on (bitAt words) .counted)
+
+pub file-few : (file words records marks : List ℕ) → (fileRun file words records marks) .run .report .kept ≤ capacityOf (length records)
+unfolding fileRun refusedOr
+file-few file words records marks = go (eqb number 0) refl
+  where
+    number : ℕ
+    number = fileRefusal file (length words) (length marks) (length records)
+
+    go : (b : Bool) → eqb number 0 ≡ b → (fileRun file words records marks) .run .report .kept ≤ capacityOf (length records)
+    go true e = rw e (accepted-few (image file) records (file-ready file words marks records (eqb-true _ _ e) .image .limits))
+    go false e = rw e (omega arith)

@@ -69,7 +69,7 @@ pub fn search_words(
     search_accepted(words, crop::shape_of(width, height), records, marks)
 }
 
-// The search of a crop file that was checked, with words to unpack it into.
+// The search of a crop file that was checked, with words to unpack it into: what `search_file` and the program have in common. It is no entry.
 pub fn search_checked(
     file: &[u8],
     checked: Checked,

@@ -97,8 +97,8 @@ pub fn box_symbol(
     requires { ⌜ LentCircle shape (now words) (now marks) circle (now table) ⌝ }
     ensures { λ r. ⌜ Ran (symbolAt shape circle) (now (words .entry)) (now (marks .entry)) r (now (marks .exit)) ⌝ }
 {
-    let boundary = detector_boundary::plain_boundary(shape, circle.center, circle.radius);
     let turn = detector_turn::try_scales(words, marks, shape, circle, table);
+    let boundary = detector_boundary::plain_boundary(shape, circle.center, circle.radius);
     let corners = corners_of(boundary, turn, table);
     let class = detector_turn::class_of(turn);
     Symbol {

@@ -108,13 +108,15 @@ pub fn verify_bullseye_vertical(
     requires { ⌜ Image shape (now words) (now marks) × (0 < column) × (column + 1 < 2 ^ 32) ⌝ }
     ensures { λ r. ⌜ Ran (verifyBullseyeVertical shape row column) (now (words .entry)) (now (marks .entry)) r (now (marks .exit)) ⌝ }
 {
+    let next = column + 1;
+    let before = column - 1;
     let here = try_column(words, marks, shape, row, column);
     if here.good {
         return here;
     }
-    let right = try_column(words, marks, shape, row, column + 1);
+    let right = try_column(words, marks, shape, row, next);
     if right.good {
         return right;
     }
-    try_column(words, marks, shape, row, column - 1)
+    try_column(words, marks, shape, row, before)
 }

@@ -40,11 +40,11 @@ module _ (shape : Shape) (center : PointU) (groups : List (List PointU)) {column
       (same-look angle k (omega arith))
       (same-from angle n (k + 1) (omega arith))
 
-  pub same-test : (angle : Angle)
+  pub same-degree-test : (angle : Angle)
       → testOffsets shape (pointAt center) columns rows angle
       ≡ testDegree shape center groups angle
   unfolding testOffsets testDegree
-  same-test angle = same-from angle 18 0 (omega arith)
+  same-degree-test angle = same-from angle 18 0 (omega arith)
 
   same-turns : (n i : ℕ)
       → turnsFrom shape (pointAt center) columns rows n i
@@ -54,7 +54,7 @@ module _ (shape : Shape) (center : PointU) (groups : List (List PointU)) {column
   same-turns (suc n) i =
       ap₂
       (λ (test : Reads Degree) (rest : Reads Rotation). test >>= ifDegree (done (rotation.Found (i * 2))) rest (done rotation.None))
-      (same-test (angleOf (i * 2)))
+      (same-degree-test (angleOf (i * 2)))
       (same-turns n (i + 1))
 
   pub same-degrees : tryOffsets shape (pointAt center) columns rows

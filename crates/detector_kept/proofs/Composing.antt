@@ -8,7 +8,7 @@ use Rattle.records.specs.Records.{Record, rows, flat, laidOut, Became, Each}
 use Rattle.records.specs.RecordsLaws.{length-rows, take-flat, rows-front, drop-later, each-filter, each-map, each-both, rows-whole}
 use Rattle.detector_kept.specs.Spread.{spread}
 use Rattle.detector_kept.specs.Retain.{near, retain, Retained}
-use Rattle.detector_rank.specs.Rank.{withVariance, rank, Small, Plain, Rankable}
+use Rattle.detector_rank.specs.Rank.{withVariance, rank, Small, PlainVariance, Rankable}
 use Rattle.detector_rank.specs.RankLaws.{varied-plain}
 use Rattle.detector_kept.specs.Kept.{Candidates, ranked, KeptAndRanked}
 use Rattle.detector_kept.specs.declared.Spread.{Spread}
@@ -23,7 +23,7 @@ module _ {found : ℕ} {l₀ : List ℕ} (held : Candidates found l₀) {s : Spr
     held = omega arith;
     numbers =
         rw (varied .records)
-        (each-map (λ (r : Record). (length r ≡ 40) × Small r) Plain withVariance varied-plain (rows kept l₁)
+        (each-map (λ (r : Record). (length r ≡ 40) × Small r) PlainVariance withVariance varied-plain (rows kept l₁)
         (each-both (λ (r : Record). length r ≡ 40) Small (rows kept l₁) (rows-whole kept l₁ room) small));
   }
 

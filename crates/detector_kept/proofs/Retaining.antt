@@ -3,7 +3,7 @@ use Prim.Native.Nat.{ℕ, _+_, _-_, _*_, _≤_, _<_}
 use native.Mathlib.Nat.{add-zero}
 use native.Mathlib.Numerals.{add-one}
 use native.Mathlib.Omega.{arith}
-use mathlib.Core.Bool.{Bool, true, false, cond}
+use mathlib.Core.Bool.{Bool, true, false, cond, _&&_}
 use mathlib.Core.Path.{_≡_, refl, sym, ap, _∙_}
 use mathlib.Core.List.{List, [], _∷_, _++_, append-nil}
 use lib.Dec.{leb}
@@ -26,17 +26,10 @@ within-above d m x h =
     let e : x - m ≡ (x - m) + (m - x) = omega arith in
     ap (λ (n : ℕ). leb n d) e
 
-module _ (s : Spread) (l : List ℕ) (i : ℕ) (b : Bool) (x-is : b ≡ within (s .«dev_x») (s .«mean_x») (getD l (40 * i + 0) 0)) where
-  x-near : b ≡ within (s .«dev_x») (s .«mean_x») (getD (get l i) 0 0)
-  x-near = x-is ∙ ap (within (s .«dev_x») (s .«mean_x»)) (sym (get-word l i 0 (omega arith)))
-
-  pub near-both : (b′ : Bool) → b ≡ true → b′ ≡ within (s .«dev_y») (s .«mean_y») (getD l (40 * i + 1) 0) → b′ ≡ near s (get l i)
-  unfolding near
-  near-both b′ e y-is = rw (← x-near, e) (y-is ∙ ap (within (s .«dev_y») (s .«mean_y»)) (sym (get-word l i 1 (omega arith))))
-
-  pub near-not : b ≡ false → false ≡ near s (get l i)
-  unfolding near
-  near-not e = rw (← x-near, e)
+pub near-both : (s : Spread) (l : List ℕ) (i : ℕ) {x y : Bool} → x ≡ within (s .«dev_x») (s .«mean_x») (getD l (40 * i + 0) 0)
+    → y ≡ within (s .«dev_y») (s .«mean_y») (getD l (40 * i + 1) 0) → (x && y) ≡ near s (get l i)
+unfolding near
+near-both s l i x-is y-is = rw (x-is, y-is, get-word l i 0 (omega arith), get-word l i 1 (omega arith))
 
 -- ---- a filter of one element more
 
@@ -98,8 +91,8 @@ module _ {found : ℕ} {s : Spread} {l₀ l : List ℕ} {kept i : ℕ} (so-far :
     inside : i < length (rows found l₀)
     inside = omega (arith, length-rows found l₀)
 
-    pub passed : (b : Bool) → b ≡ near s r → b ≡ false → Retaining found s l₀ l kept (i + 1)
-    passed b is e = record {
+    pub retained-passed : (b : Bool) → b ≡ near s r → b ≡ false → Retaining found s l₀ l kept (i + 1)
+    retained-passed b is e = record {
       few = omega arith;
       fewer = omega (arith, so-far .fewer);
       beside = so-far .beside;

@@ -1,13 +1,16 @@
--- What holds of the ranked records, by what holds of each candidate; and any two of them are in order (`ranked-sorted`). Assumes nothing.
-use Prim.Native.Nat.{ℕ}
+-- What holds of the ranked records, by what holds of each candidate; they are no more than the candidates (`ranked-few`), and any two of them are in order
+-- (`ranked-sorted`). Assumes nothing.
+use Prim.Native.Nat.{ℕ, suc, _≤_}
+use native.Mathlib.Omega.{arith}
+use mathlib.Core.Bool.{Bool, true, false, cond}
 use mathlib.Core.Path.{_≡_}
-use mathlib.Core.List.{List, map}
-use lib.ListN.{length}
-use Rattle.records.specs.Records.{Record, rows, Each}
+use mathlib.Core.List.{List, [], _∷_, map}
+use lib.ListN.{length, length-map}
+use Rattle.records.specs.Records.{Record, rows, Each, filter}
 use Rattle.records.specs.RecordsLaws.{rows-whole, each-both, each-filter, each-map}
 use Rattle.detector_rank.specs.Sort.{Sorted}
-use Rattle.detector_rank.specs.SortLaws.{sort-each}
-use Rattle.detector_rank.specs.Rank.{withVariance, lower, rank, Small, Plain}
+use Rattle.detector_rank.specs.SortLaws.{permutes-length, sort-each}
+use Rattle.detector_rank.specs.Rank.{withVariance, lower, rank, Small, PlainVariance}
 use Rattle.detector_rank.specs.RankLaws.{rank-ranks, varied-plain}
 use Rattle.detector_kept.specs.declared.Spread.{Spread}
 use Rattle.detector_kept.specs.Spread.{spread}
@@ -22,11 +25,28 @@ pub each-ranked : (P Q : Record → Type 0) → ((r : Record) → P r → Q (wit
 unfolding ranked rank
 each-ranked P Q gives rs each = sort-each lower Q (map withVariance (retain (spread rs) rs)) (each-varied P Q gives (spread rs) rs each)
 
--- any two of the ranked candidates are in order: no variance is a NaN
-pub ranked-sorted : (found : ℕ) (words : List ℕ) → Candidates found words → Sorted lower (ranked (rows found words))
+-- no more are kept than there are candidates
+filter-few : {A : Type 0} (p : A → Bool) (xs : List A) → length (filter p xs) ≤ length xs
+unfolding filter
+filter-few p [] = omega arith
+filter-few {A} p (x ∷ xs) = pick (p x) (filter p xs) (filter-few p xs)
+  where
+    pick : (b : Bool) (rest : List A) → length rest ≤ length xs → length (cond b (x ∷ rest) rest) ≤ suc (length xs)
+    pick true rest h = omega arith
+    pick false rest h = omega arith
+
+pub ranked-few : (rs : List Record) → length (ranked rs) ≤ length rs
 unfolding ranked
-ranked-sorted found words held =
-    let rs : List Record = rows found words in
+ranked-few rs =
+    let kept : List Record = retain (spread rs) rs in
+    let varied : List Record = map withVariance kept in
+    omega (arith, permutes-length (rank-ranks varied .permutes), length-map kept withVariance, filter-few (near (spread rs)) rs)
+
+-- any two of the ranked candidates are in order: no variance is a NaN
+pub ranked-sorted : (found : ℕ) (records : List ℕ) → Candidates found records → Sorted lower (ranked (rows found records))
+unfolding ranked
+ranked-sorted found records held =
+    let rs : List Record = rows found records in
     rank-ranks (map withVariance (retain (spread rs) rs)) .sorted
-    (each-varied (λ (r : Record). (length r ≡ 40) × Small r) Plain varied-plain (spread rs) rs
-    (each-both (λ (r : Record). length r ≡ 40) Small rs (rows-whole found words (held .held)) (held .small)))
+    (each-varied (λ (r : Record). (length r ≡ 40) × Small r) PlainVariance varied-plain (spread rs) rs
+    (each-both (λ (r : Record). length r ≡ 40) Small rs (rows-whole found records (held .held)) (held .small)))

@@ -5,46 +5,43 @@ use lib.IntN.{pos}
 use lib.ListN.{length, getD}
 use lib.Ieee.{Float, binary64, ofBits, ofInt, add, sub, mul, div, toUnsigned}
 use Rattle.ieee.specs.Sqrt.{sqrt}
+use Rattle.reads.specs.Total.{total}
 use Rattle.records.specs.Fields as field
 use Rattle.records.specs.Records.{Record}
 use Rattle.detector_kept.specs.declared.Spread.{Spread}
 
 -- one field of each record
-abbrev pub column : ℕ → List Record → List ℕ
-column k rs = map (λ (r : Record). getD r k 0) rs
+abbrev pub fieldsAt : ℕ → List Record → List ℕ
+fieldsAt k rs = map (λ (r : Record). getD r k 0) rs
 
-abbrev pub number : ℕ → Float
-number n = ofInt binary64 (pos n)
-
-unfoldable pub total : List ℕ → ℕ
-total [] = 0
-total (x ∷ xs) = x + total xs
+abbrev pub real64 : ℕ → Float
+real64 n = ofInt binary64 (pos n)
 
 unfoldable pub mean : List ℕ → Float
 unfolding total ofInt div
-mean xs = div binary64 (number (total xs)) (number (length xs))
+mean xs = div binary64 (real64 (total xs)) (real64 (length xs))
 
 -- acc, and the square of how far x is from m
-unfoldable pub further : Float → Float → ℕ → Float
+unfoldable pub withSquare : Float → Float → ℕ → Float
 unfolding ofInt add sub mul
-further m acc x = let off = sub binary64 (number x) m in add binary64 acc (mul binary64 off off)
+withSquare m acc x = let off = sub binary64 (real64 x) m in add binary64 acc (mul binary64 off off)
 
 -- acc, and the squares of the numbers, added in their order
 unfoldable pub squares : Float → Float → List ℕ → Float
-unfolding further
+unfolding withSquare
 squares m acc [] = acc
-squares m acc (x ∷ xs) = squares m (further m acc x) xs
+squares m acc (x ∷ xs) = squares m (withSquare m acc x) xs
 
 unfoldable pub deviation : List ℕ → Float
 unfolding mean squares ofBits ofInt div sqrt
-deviation xs = sqrt binary64 (div binary64 (squares (mean xs) (ofBits binary64 0) xs) (number (length xs)))
+deviation xs = sqrt binary64 (div binary64 (squares (mean xs) (ofBits binary64 0) xs) (real64 (length xs)))
 
 -- both truncated, for x and for y
 unfoldable pub spread : List Record → Spread
 unfolding mean deviation toUnsigned
 spread rs = record {
-  «dev_x» = toUnsigned 32 (deviation (column field.centerX rs));
-  «dev_y» = toUnsigned 32 (deviation (column field.centerY rs));
-  «mean_x» = toUnsigned 32 (mean (column field.centerX rs));
-  «mean_y» = toUnsigned 32 (mean (column field.centerY rs));
+  «dev_x» = toUnsigned 32 (deviation (fieldsAt field.centerX rs));
+  «dev_y» = toUnsigned 32 (deviation (fieldsAt field.centerY rs));
+  «mean_x» = toUnsigned 32 (mean (fieldsAt field.centerX rs));
+  «mean_y» = toUnsigned 32 (mean (fieldsAt field.centerY rs));
 }

@@ -4,7 +4,8 @@ ghost use mathlib.Core.Path.{_≡_};
 ghost use Prim.Native.Nat.{_+_, _*_, _≤_, _<_};
 ghost use lib.ListN.{length};
 ghost use Rattle.records.specs.Records.{rows, get};
-ghost use Rattle.detector_kept.specs.Spread.{column, total, squares, mean, deviation, spread};
+ghost use Rattle.reads.specs.Total.{total};
+ghost use Rattle.detector_kept.specs.Spread.{fieldsAt, squares, mean, deviation, spread};
 ghost use Rattle.detector_kept.specs.Retain.{within, near, Retained};
 ghost use Rattle.detector_kept.specs.Kept.{Candidates, KeptAndRanked};
 ghost use lib.Ieee as Ieee;
@@ -26,7 +27,7 @@ struct Axis {
 // The sum of a coordinate of the centre over the candidates: `axis` is its place in a record.
 fn total_of(records: &[u32], found: usize, axis: usize) -> u32
     requires { ⌜ Candidates found (now records) × (axis < 40) ⌝ }
-    ensures { λ r. ⌜ r ≡ total (column axis (rows found (now (records .entry)))) ⌝ }
+    ensures { λ r. ⌜ r ≡ total (fieldsAt axis (rows found (now (records .entry)))) ⌝ }
 {
     let mut sum = 0u32;
     let mut i = 0usize;
@@ -40,7 +41,7 @@ fn total_of(records: &[u32], found: usize, axis: usize) -> u32
 // The squares of the distances from the mean, added in the candidates' order.
 fn squares_of(records: &[u32], found: usize, axis: usize, mean: f64) -> f64
     requires { ⌜ Candidates found (now records) × (axis < 40) ⌝ }
-    ensures { λ r. ⌜ r ≡ squares mean (Ieee.ofBits Ieee.binary64 0) (column axis (rows found (now (records .entry)))) ⌝ }
+    ensures { λ r. ⌜ r ≡ squares mean (Ieee.ofBits Ieee.binary64 0) (fieldsAt axis (rows found (now (records .entry)))) ⌝ }
 {
     let mut sum = 0.0f64;
     let mut i = 0usize;
@@ -55,7 +56,7 @@ fn squares_of(records: &[u32], found: usize, axis: usize, mean: f64) -> f64
 // The mean and the deviation of one coordinate.
 fn axis_of(records: &[u32], found: usize, axis: usize) -> Axis
     requires { ⌜ Candidates found (now records) × (axis < 40) ⌝ }
-    ensures { λ r. ⌜ (r .dev ≡ Ieee.toUnsigned 32 (deviation (column axis (rows found (now (records .entry)))))) × (r .mean ≡ Ieee.toUnsigned 32 (mean (column axis (rows found (now (records .entry)))))) ⌝ }
+    ensures { λ r. ⌜ (r .dev ≡ Ieee.toUnsigned 32 (deviation (fieldsAt axis (rows found (now (records .entry)))))) × (r .mean ≡ Ieee.toUnsigned 32 (mean (fieldsAt axis (rows found (now (records .entry)))))) ⌝ }
 {
     let n = (found as u32) as f64;
     let mean = (total_of(records, found, axis) as f64) / n;
@@ -97,19 +98,11 @@ fn is_near(spread: Spread, records: &[u32], i: usize) -> bool
     requires { ⌜ 40 * i + 40 ≤ length (now records) ⌝ }
     ensures { λ r. ⌜ r ≡ near spread (get (now (records .entry)) i) ⌝ }
 {
-    if is_within(
-        spread.dev_x,
-        spread.mean_x,
-        records[40 * i + records::CENTER_X],
-    ) {
-        is_within(
-            spread.dev_y,
-            spread.mean_y,
-            records[40 * i + records::CENTER_Y],
-        )
-    } else {
-        false
-    }
+    let x = records[40 * i + records::CENTER_X];
+    let y = records[40 * i + records::CENTER_Y];
+    let near_x = is_within(spread.dev_x, spread.mean_x, x);
+    let near_y = is_within(spread.dev_y, spread.mean_y, y);
+    near_x & near_y
 }
 
 // `detect`'s retain: the near records move to the front, in their order. Their number is returned.

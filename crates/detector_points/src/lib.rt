@@ -25,12 +25,14 @@ pub fn adjust_point_alternate(point: PointU, boundary: Boundary) -> PointU
     requires { ⌜ T (isCell point) × Placed boundary ⌝ }
     ensures { λ r. ⌜ r ≡ adjustedPoint boundary point ⌝ }
 {
-    let height = boundary.top - boundary.bottom;
+    let top = boundary.top;
+    let bottom = boundary.bottom;
+    let height = top - bottom;
     let width = boundary.right - boundary.left;
     let y = point.y;
     let x = point.x;
     let iy = least(
-        boundary.bottom + (y * height + height / 2) / MATRIX_HEIGHT,
+        bottom + (y * height + height / 2) / MATRIX_HEIGHT,
         height - 1,
     );
     let ix = boundary.left

@@ -20,7 +20,7 @@ use Rattle.bit_runs.specs.BitRuns.{rowBit}
 use Rattle.detector_widths.specs.Buckets.{bump}
 use Rattle.detector_widths.specs.Widths.{validWidths}
 use Rattle.detector_rows.specs.Rows.{metadata, withoutFirst, windowBy, windowFrom}
-use Rattle.detector_rows.specs.RowsLaws.{Counted, counted-same, counted-next, counted-without}
+use Rattle.detector_rows.specs.RowsLaws.{CountedRuns, counted-same, counted-next, counted-without}
 use Rattle.detector_rows.specs.Ring.{bucketsOf, colour, closing}
 use Rattle.detector_rows.specs.declared.Bullseye.{Bullseye}
 use Rattle.detector_rows.proofs.RingLaws.{bump-run, colour-next, started, early, late}
@@ -134,22 +134,22 @@ module _ {words : List ℕ} (shape : Shape) (row limit : ℕ) (stored : length w
 -- ---- the runs counted
 
 module _ {from : ℕ} (ring : List ℕ) (k x : ℕ) where
-  counted-by : (n : ℕ) → getD ring (k % 16) 0 ≤ x → Counted from x (min k 10) (bucketsOf ring k x) → Counted from (x + n) (min k 10) (bucketsOf ring k (x + n))
+  counted-by : (n : ℕ) → getD ring (k % 16) 0 ≤ x → CountedRuns from x (min k 10) (bucketsOf ring k x) → CountedRuns from (x + n) (min k 10) (bucketsOf ring k (x + n))
   counted-by zero start counted = rw add-zero counted
   counted-by (suc n) start counted =
       let next : x + n + 1 ≡ x + suc n = omega arith in
       rw (← next, ← bump-run ring k (x + n) (omega arith)) (counted-same (counted-by n start counted))
 
-  pub counted-to : (e : ℕ) → x ≤ e → getD ring (k % 16) 0 ≤ x → Counted from x (min k 10) (bucketsOf ring k x) → Counted from e (min k 10) (bucketsOf ring k e)
+  pub counted-to : (e : ℕ) → x ≤ e → getD ring (k % 16) 0 ≤ x → CountedRuns from x (min k 10) (bucketsOf ring k x) → CountedRuns from e (min k 10) (bucketsOf ring k e)
   counted-to e after start counted =
       let there : x + (e - x) ≡ e = omega arith in
       rw there at (counted-by (e - x) start counted)
 
-  pub counted-change : length ring ≡ 16 → Counted from x (min k 10) (bucketsOf ring k x)
-      → Counted from (x + 1) (min (k + 1) 10) (bucketsOf (started ring k x) (k + 1) (x + 1))
+  pub counted-change : length ring ≡ 16 → CountedRuns from x (min k 10) (bucketsOf ring k x)
+      → CountedRuns from (x + 1) (min (k + 1) 10) (bucketsOf (started ring k x) (k + 1) (x + 1))
   counted-change size counted = go (decLt k 10)
     where
-      go : Dec (k < 10) → Counted from (x + 1) (min (k + 1) 10) (bucketsOf (started ring k x) (k + 1) (x + 1))
+      go : Dec (k < 10) → CountedRuns from (x + 1) (min (k + 1) 10) (bucketsOf (started ring k x) (k + 1) (x + 1))
       go (yes few) =
           let place : min k 10 + 1 ≡ min (k + 1) 10 = omega arith in
           rw (← place, ← early ring k x size few) (counted-next counted (omega arith))

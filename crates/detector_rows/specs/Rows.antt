@@ -5,16 +5,13 @@ use mathlib.Core.Bool.{Bool, true, false, not, cond, _&&_, Bool·beq}
 use mathlib.Core.List.{List, [], _∷_, _++_}
 use lib.Dec.{ltb}
 use lib.ListN.{drop, replicate}
+use Rattle.reads.specs.Total.{total}
 use Rattle.reads.specs.Reads.{Reads, done, _>>=_}
 use Rattle.bit_matrix.specs.declared.Shape.{Shape}
 use Rattle.bit_matrix.specs.Pixels.{pixel}
 use Rattle.detector_widths.specs.Buckets.{bump}
 use Rattle.detector_widths.specs.Widths.{validWidths}
 use Rattle.detector_rows.specs.declared.Bullseye.{Bullseye}
-
-unfoldable pub total : List ℕ → ℕ
-total [] = 0
-total (n ∷ ns) = n + total ns
 
 -- half the sum of the runs, a half up
 abbrev pub radiusOf : List ℕ → ℕ

@@ -16,7 +16,8 @@ use Rattle.bit_matrix.specs.declared.Shape.{Shape}
 use Rattle.detector_widths.specs.Buckets.{bump}
 use Rattle.detector_widths.specs.Widths.{evenTotal, oddTotal, evenRunsPass, validWidths, validWidthsF32}
 use Rattle.detector_widths.specs.SameWidths.{same-widths}
-use Rattle.detector_rows.specs.Rows.{total, metadata, withoutFirst, skipWhite, windowBy, windowFrom, nextBullseyeBy, nextBullseye}
+use Rattle.reads.specs.Total.{total}
+use Rattle.detector_rows.specs.Rows.{metadata, withoutFirst, skipWhite, windowBy, windowFrom, nextBullseyeBy, nextBullseye}
 use Rattle.detector_rows.specs.declared.Bullseye.{Bullseye}
 
 -- ---- totals
@@ -69,7 +70,7 @@ parts-total buckets =
 
 -- Runs counted from column `start` on, up to `column`: each but the first has a pixel. `always-window` takes it from
 -- pixel to pixel, so that it holds of every window that is tested.
-pub record Counted (start column pointer : ℕ) (buckets : List ℕ) : Type 0 where
+pub record CountedRuns (start column pointer : ℕ) (buckets : List ℕ) : Type 0 where
   pub eleven : length buckets ≡ 11
   pub few : pointer ≤ 10
   pub sum : start + total buckets ≤ column
@@ -83,11 +84,11 @@ last-some (n ∷ ns) zero h some = some 0 (omega arith) (omega arith)
 last-some (n ∷ ns) (suc i) h some = last-some ns i (omega arith) (λ j low less. some (suc j) (omega arith) (omega arith))
 
 -- before the first pixel
-pub counted-none : {start first : ℕ} → start ≤ first → Counted start first 0 (replicate 11 0)
+pub counted-none : {start first : ℕ} → start ≤ first → CountedRuns start first 0 (replicate 11 0)
 unfolding total
 counted-none h = record { eleven = refl; few = omega arith; sum = omega arith; some = λ i low high. absurd (omega arith) }
 
-module _ {start column pointer : ℕ} {buckets : List ℕ} (counted : Counted start column pointer buckets) where
+module _ {start column pointer : ℕ} {buckets : List ℕ} (counted : CountedRuns start column pointer buckets) where
   -- run i has a pixel, once run `at` has one more
   bump-some : (at i : ℕ) → at < 11 → Dec (i ≡ at) → (i ≢ at → 0 < getD buckets i 0) → 0 < getD (bump buckets at) i 0
   unfolding bump
@@ -109,7 +110,7 @@ module _ {start column pointer : ℕ} {buckets : List ℕ} (counted : Counted st
       same-widths buckets (omega (arith, parts-total buckets, counted .sum)) (omega (arith, parts-total buckets, counted .sum))
 
   -- one pixel more in the present run
-  pub counted-same : Counted start (column + 1) pointer (bump buckets pointer)
+  pub counted-same : CountedRuns start (column + 1) pointer (bump buckets pointer)
   counted-same = record {
     eleven = same-length pointer;
     few = counted .few;
@@ -118,7 +119,7 @@ module _ {start column pointer : ℕ} {buckets : List ℕ} (counted : Counted st
   }
 
   -- the next run begun
-  pub counted-next : pointer < 10 → Counted start (column + 1) (pointer + 1) (bump buckets (pointer + 1))
+  pub counted-next : pointer < 10 → CountedRuns start (column + 1) (pointer + 1) (bump buckets (pointer + 1))
   counted-next h = record {
     eleven = same-length (pointer + 1);
     few = omega arith;
@@ -127,7 +128,7 @@ module _ {start column pointer : ℕ} {buckets : List ℕ} (counted : Counted st
   }
 
   -- the first run dropped
-  pub counted-without : 10 ≤ pointer → Counted start (column + 1) pointer (withoutFirst buckets)
+  pub counted-without : 10 ≤ pointer → CountedRuns start (column + 1) pointer (withoutFirst buckets)
   counted-without full =
       let long : length (drop 1 buckets) ≡ 10 = length-drop 1 buckets ∙ omega (arith, counted .eleven) in
       record {
@@ -161,7 +162,7 @@ first-some buckets pass =
     let wide : evenTotal buckets < 10 * getD buckets 0 0 = ltb-true (evenTotal buckets) (10 * getD buckets 0 0) first in
     omega (arith, wide)
 
-closed : {start column width : ℕ} {buckets : List ℕ} → Counted start column 10 buckets → validWidths buckets ≡ true → column < width - 6
+closed : {start column width : ℕ} {buckets : List ℕ} → CountedRuns start column 10 buckets → validWidths buckets ≡ true → column < width - 6
     → Closed start width (metadata buckets column)
 unfolding metadata
 closed {column = column} {width} {buckets} counted pass before =
@@ -182,8 +183,8 @@ closed {column = column} {width} {buckets} counted pass before =
     by-place i (no later) low = counted .some i (omega arith) (omega (arith, counted .eleven))
 
 -- what a search says of its result
-abbrev pub Found : ℕ → ℕ → Bullseye → Type 0
-Found start width eye = eye .found ≡ true → Closed start width eye
+abbrev pub FoundWindow : ℕ → ℕ → Bullseye → Type 0
+FoundWindow start width eye = eye .found ≡ true → Closed start width eye
 
 module _ (shape : Shape) (row : ℕ) where
   always-skip : (n column : ℕ) → Always (λ first. column ≤ first) (skipWhite shape row n column)
@@ -197,8 +198,8 @@ module _ (shape : Shape) (row : ℕ) where
       later always = record { on = λ image. omega (arith, always .on image) }
 
   always-window : {start width : ℕ} (n column : ℕ) (last : Bool) (pointer : ℕ) (buckets : List ℕ)
-      → n ≤ width - 6 - column → Counted start column pointer buckets
-      → Always (Found start width) (windowFrom shape row n column last pointer buckets)
+      → n ≤ width - 6 - column → CountedRuns start column pointer buckets
+      → Always (FoundWindow start width) (windowFrom shape row n column last pointer buckets)
   unfolding windowBy
   always-window zero column last pointer buckets h counted = always-done (λ e. absurd (false≢true e))
   always-window {start} {width} (suc n) column last pointer buckets h counted =
@@ -216,7 +217,7 @@ module _ (shape : Shape) (row : ℕ) where
           closed (rw ten at counted) pass (omega arith)
 
 -- Whatever the image, a window found is closed after the start and before the limit.
-pub always-closed : (shape : Shape) (row start : ℕ) → Always (Found start (shape .width)) (nextBullseye shape row start)
+pub always-closed : (shape : Shape) (row start : ℕ) → Always (FoundWindow start (shape .width)) (nextBullseye shape row start)
 unfolding nextBullseyeBy
 always-closed shape row start =
     always-bind _ (always-skip shape row (shape .width - 6 - start) start)
@@ -226,7 +227,7 @@ always-closed shape row start =
 
 module _ (shape : Shape) (row : ℕ) where
   same-window : {start width : ℕ} (n column : ℕ) (last : Bool) (pointer : ℕ) (buckets : List ℕ)
-      → width ≤ 2 ^ 20 → n ≤ width - 6 - column → Counted start column pointer buckets
+      → width ≤ 2 ^ 20 → n ≤ width - 6 - column → CountedRuns start column pointer buckets
       → Same (windowBy validWidthsF32 shape row n column last pointer buckets) (windowFrom shape row n column last pointer buckets)
   unfolding windowBy
   same-window zero column last pointer buckets narrow h counted = same-refl

@@ -7,7 +7,8 @@ ghost use lib.ListN.{length, getD};
 ghost use Rattle.reads.specs.Runs.{Ran};
 ghost use Rattle.bit_matrix.specs.Shape.{size, Limits, Image};
 ghost use Rattle.bit_runs.specs.BitRuns.{rowBit, FirstBlack};
-ghost use Rattle.detector_rows.specs.Rows.{total, metadata, none, nextBullseye};
+ghost use Rattle.reads.specs.Total.{total};
+ghost use Rattle.detector_rows.specs.Rows.{metadata, none, nextBullseye};
 ghost use Rattle.detector_rows.specs.Ring.{bucketsOf, closing, readTo, Swept};
 
 // A window of eleven runs that passed: its centre and radius, and its runs. Where none was found all is zero.

@@ -20,7 +20,7 @@ use Rattle.detector_candidates.specs.CandidatesLaws.{Candidate, all-candidates}
 use Rattle.detector_rank.specs.Rank.{varianceBits, withVariance, Small}
 use Rattle.detector_kept.specs.KeptLaws.{each-ranked}
 use Rattle.detector_verdict.specs.Verdict.{verdict, Judgeable, Holds, Judged}
-use Rattle.detector_verdict.specs.VerdictLaws.{kept-counted, each-kept}
+use Rattle.detector_verdict.specs.VerdictLaws.{verdict-counted, counted-few, kept-counted, each-kept}
 use Rattle.detector_verdict.specs.declared.Counts.{Counts}
 use Rattle.detector_boxes.specs.Boxing.{boxedAll, Boxable, AllBoxable, Boxed}
 use Rattle.detector_search.specs.Search.{Result, searchAt, Sought}
@@ -113,7 +113,8 @@ module _ {words marks records : List ℕ} {shape : Shape} {capacity : ℕ} (imag
         k = r .kept
 
         buffer-room : 40 * k ≤ length c₂
-        buffer-room = omega (arith, room .held, judged .few)
+        buffer-room =
+            omega (arith, room .held, ap (λ (c : Counts). c .kept) (judged .counts), counted-few (verdict-counted capacity candidates (fits .1)))
 
         pub boxable : AllBoxable shape k c₂
         boxable = record {

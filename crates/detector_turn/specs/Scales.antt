@@ -20,7 +20,7 @@ use Rattle.detector_degrees.specs.Degrees.{ifRotation, tryDegrees}
 use Rattle.detector_turn.specs.declared.Turn.{Turn}
 use Rattle.detector_turn.specs.declared.Outcome.the-variants.{Turned, NoTurn, LostCentre}
 
--- what the scales are lent: an image, a circle whose centre lies inside, and the table
+-- what the scales are lent: an image, a circle whose centre lies inside, with a radius from 6 to 2,047, and the table
 pub record LentCircle (shape : Shape) (words marks : List ℕ) (circle : Circle) (table : List Float) : Type 0 where
   pub lent : Lent shape words marks (circle .center) table
   pub least : 6 ≤ circle .radius

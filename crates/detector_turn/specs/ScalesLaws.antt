@@ -57,9 +57,9 @@ unfolding correctedCircle
 radius-kept shape circle = always-after _ _ λ center. always-done refl
 
 -- every accepted scale is one that the boundaries take
-pub accepted : (scale : ℕ) → 1 ≤ scale → scale < 6 → T (isScale (acceptedScale scale))
+pub scale-accepted : (scale : ℕ) → 1 ≤ scale → scale < 6 → T (isScale (acceptedScale scale))
 unfolding acceptedScale ofBits le
-accepted scale first last = every-at (λ (i : ℕ). isScale (getD acceptedScales i nan)) 5 tt (scale - 1) (omega arith)
+scale-accepted scale first last = every-at (λ (i : ℕ). isScale (getD acceptedScales i nan)) 5 tt (scale - 1) (omega arith)
 
 no-rotation : 0 ≡ toBits binary32 (real 0)
 unfolding toBits ofInt

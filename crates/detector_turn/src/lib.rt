@@ -122,7 +122,11 @@ pub fn try_scales(
         if let Rotation::Found(degree) = rotation {
             return turned_by(degree, scale, next.center);
         }
-        last = next;
+        let center = next.center;
+        last = Circle {
+            center,
+            radius: circle.radius,
+        };
         scale += 1;
     }
     not_turned(last.center)

@@ -6,7 +6,7 @@ use mathlib.Core.List.{List}
 use lib.ListN.{getD}
 use lib.Ieee.{Float, binary32, ofBits, add, div}
 use Rattle.rxing_result_point.specs.Points.{real}
-use Rattle.detector_variance.specs.Variance.{evens, odds, others, widthTo, moduleSize, further, varianceTo, expectedArea, areaVariance, variance, Short}
+use Rattle.detector_variance.specs.Variance.{evens, odds, others, widthTo, tenthOfWidth, further, varianceTo, expectedArea, areaVariance, circleVariance, Short}
 
 -- ---- the runs
 
@@ -66,8 +66,8 @@ pub variance-is : (h v : List ℕ) (width-even width-odd : ℕ) (real-even real-
     → width-even ≡ widthTo evens h v 11 → real-even ≡ real width-even → even ≡ varianceTo evens h (div binary32 real-even (ofBits binary32 0x4120_0000)) 11
     → width-odd ≡ widthTo odds h v 11 → real-odd ≡ real width-odd → odd ≡ varianceTo others h (div binary32 real-odd (ofBits binary32 0x4120_0000)) 11
     → horizontal ≡ expectedArea (getD v 5 0) → vertical ≡ expectedArea (getD h 5 0) → circle ≡ areaVariance horizontal vertical
-    → div binary32 (add binary32 (add binary32 even odd) circle) (ofBits binary32 0x4040_0000) ≡ variance h v
-unfolding variance moduleSize
+    → div binary32 (add binary32 (add binary32 even odd) circle) (ofBits binary32 0x4040_0000) ≡ circleVariance h v
+unfolding circleVariance tenthOfWidth
 variance-is h v width-even width-odd real-even real-odd even odd horizontal vertical circle we re e wo ro o hs vs c =
     let tenth : Float → Float = λ x. div binary32 x (ofBits binary32 0x4120_0000) in
     ap₂ (λ (a b : Float). div binary32 (add binary32 a b) (ofBits binary32 0x4040_0000))

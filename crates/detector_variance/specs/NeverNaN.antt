@@ -14,7 +14,7 @@ use lib.Ieee.Order.{round-mono}
 use lib.Ieee.Scale.{finite}
 use Rattle.ieee.specs.Sign.{abs}
 use Rattle.rxing_result_point.specs.Points.{real}
-use Rattle.detector_variance.specs.Variance.{evens, odds, others, takes, further, widthTo, varianceTo, moduleSize, expectedArea, areaVariance, variance}
+use Rattle.detector_variance.specs.Variance.{evens, odds, others, takes, further, widthTo, varianceTo, tenthOfWidth, expectedArea, areaVariance, circleVariance}
 
 -- a choice, by its two cases
 pub either : {B : Type 0} (P : B → Type 0) (b : Bool) (u v : B) → (b ≡ true → P u) → (b ≡ false → P v) → P (cond b u v)
@@ -155,8 +155,8 @@ module _ (t h : List ℕ) (short : (k : ℕ) → getD h k 0 < 65536) (expected :
   total-plain (suc i) =
       either (λ (x : Float). plain x ≡ true) (takes t i) _ _ (λ _. further-plain expected _ _ pe (total-plain i) (short i)) (λ _. total-plain i)
 
-module-plain : (t h v : List ℕ) → plain (moduleSize t h v) ≡ true
-unfolding moduleSize ofBits
+module-plain : (t h v : List ℕ) → plain (tenthOfWidth t h v) ≡ true
+unfolding tenthOfWidth ofBits
 module-plain t h v = div-plain binary32 (real (widthTo t h v 11)) 4 (pos 1) (real-plain (widthTo t h v 11))
 
 -- ---- the areas
@@ -224,26 +224,26 @@ circle-plain a b pa fa pb fb =
     (abs-plain (sub binary32 a mean) (sub-exists binary32 a mean pa pm (rw fa)))
     (abs-plain (sub binary32 b mean) (sub-exists binary32 b mean pb pm (rw fb)))
 
-pub variance-plain : (h v : List ℕ) → ((k : ℕ) → getD h k 0 < 65536) → ((k : ℕ) → getD v k 0 < 65536) → plain (variance h v) ≡ true
-unfolding variance ofBits
+pub variance-plain : (h v : List ℕ) → ((k : ℕ) → getD h k 0 < 65536) → ((k : ℕ) → getD v k 0 < 65536) → plain (circleVariance h v) ≡ true
+unfolding circleVariance ofBits
 variance-plain h v sh sv =
-    let even : Float = varianceTo evens h (moduleSize evens h v) 11 in
-    let other : Float = varianceTo others h (moduleSize odds h v) 11 in
+    let even : Float = varianceTo evens h (tenthOfWidth evens h v) 11 in
+    let other : Float = varianceTo others h (tenthOfWidth odds h v) 11 in
     let wide : Float = areaVariance (expectedArea (getD v 5 0)) (expectedArea (getD h 5 0)) in
     div-plain binary32 (add binary32 (add binary32 even other) wide) 2 (pos 0)
     (add-plain binary32 (add binary32 even other) wide
     (add-plain binary32 even other
-    (total-plain evens h sh (moduleSize evens h v) (module-plain evens h v) 11)
-    (total-plain others h sh (moduleSize odds h v) (module-plain odds h v) 11))
+    (total-plain evens h sh (tenthOfWidth evens h v) (module-plain evens h v) 11)
+    (total-plain others h sh (tenthOfWidth odds h v) (module-plain odds h v) 11))
     (circle-plain (expectedArea (getD v 5 0)) (expectedArea (getD h 5 0))
     (area-plain (getD v 5 0) (sv 5)) (area-finite (getD v 5 0) (sv 5)) (area-plain (getD h 5 0) (sh 5)) (area-finite (getD h 5 0) (sh 5))))
 
 -- binary32 holds the variance
-pub variance-fits : (h v : List ℕ) → T (fits binary32 (variance h v))
-unfolding variance
+pub variance-fits : (h v : List ℕ) → T (fits binary32 (circleVariance h v))
+unfolding circleVariance
 variance-fits h v =
     div-fits binary32
     (add binary32
-    (add binary32 (varianceTo evens h (moduleSize evens h v) 11) (varianceTo others h (moduleSize odds h v) 11))
+    (add binary32 (varianceTo evens h (tenthOfWidth evens h v) 11) (varianceTo others h (tenthOfWidth odds h v) 11))
     (areaVariance (expectedArea (getD v 5 0)) (expectedArea (getD h 5 0))))
     (ofBits binary32 0x4040_0000)

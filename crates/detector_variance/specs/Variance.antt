@@ -31,9 +31,9 @@ widthTo t h v zero = 0
 widthTo t h v (suc i) = let w = widthTo t h v i in cond (takes t i) (w + (getD h i 0 + getD v i 0)) w
 
 -- `estimated_module_size_even` and `_odd`: a tenth of the width that t takes
-unfoldable pub moduleSize : List ℕ → List ℕ → List ℕ → Float
+unfoldable pub tenthOfWidth : List ℕ → List ℕ → List ℕ → Float
 unfolding widthTo ofBits ofInt div
-moduleSize t h v = div binary32 (real (widthTo t h v 11)) (ofBits binary32 0x4120_0000)
+tenthOfWidth t h v = div binary32 (real (widthTo t h v 11)) (ofBits binary32 0x4120_0000)
 
 -- acc, and how far the run n is from `expected`
 unfoldable pub further : Float → Float → ℕ → Float
@@ -59,11 +59,11 @@ areaVariance horizontal vertical =
     add binary32 (abs (sub binary32 horizontal mean)) (abs (sub binary32 vertical mean))
 
 -- the variance of row runs h and column runs v
-unfoldable pub variance : List ℕ → List ℕ → Float
-unfolding ofBits add div varianceTo moduleSize expectedArea areaVariance
-variance h v =
-    let even = varianceTo evens h (moduleSize evens h v) 11 in
-    let odd = varianceTo others h (moduleSize odds h v) 11 in
+unfoldable pub circleVariance : List ℕ → List ℕ → Float
+unfolding ofBits add div varianceTo tenthOfWidth expectedArea areaVariance
+circleVariance h v =
+    let even = varianceTo evens h (tenthOfWidth evens h v) 11 in
+    let odd = varianceTo others h (tenthOfWidth odds h v) 11 in
     let circle = areaVariance (expectedArea (getD v 5 0)) (expectedArea (getD h 5 0)) in
     div binary32 (add binary32 (add binary32 even odd) circle) (ofBits binary32 0x4040_0000)
 

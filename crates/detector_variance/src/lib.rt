@@ -3,11 +3,11 @@
 ghost use mathlib.Core.Path.{_≡_};
 ghost use Prim.Native.Nat.{_<_};
 ghost use lib.ListN.{getD};
-ghost use Rattle.detector_variance.specs.Variance.{evens, odds, others, widthTo, further, varianceTo, expectedArea, areaVariance, variance, Short};
+ghost use Rattle.detector_variance.specs.Variance.{evens, odds, others, widthTo, further, varianceTo, expectedArea, areaVariance, circleVariance, Short};
 
 // Run i.
 fn run(runs: &[u32], i: usize) -> u32
-    requires { ⌜ Short (now runs) ⌝ ∗ ⌜ i < 11 ⌝ }
+    requires { ⌜ Short (now runs) × (i < 11) ⌝ }
     ensures { λ r. ⌜ (r ≡ getD (now (runs .entry)) i 0) × (r < 65536) ⌝ }
 {
     runs[i]
@@ -15,7 +15,7 @@ fn run(runs: &[u32], i: usize) -> u32
 
 // The width of the even runs, row and column.
 fn total_width_even(h: &[u32], v: &[u32]) -> u32
-    requires { ⌜ Short (now h) ⌝ ∗ ⌜ Short (now v) ⌝ }
+    requires { ⌜ Short (now h) × Short (now v) ⌝ }
     ensures { λ r. ⌜ r ≡ widthTo evens (now (h .entry)) (now (v .entry)) 11 ⌝ }
 {
     let first = run(h, 0) + run(v, 0) + run(h, 2) + run(v, 2) + run(h, 4) + run(v, 4);
@@ -24,7 +24,7 @@ fn total_width_even(h: &[u32], v: &[u32]) -> u32
 
 // The width of the odd runs but the middle one.
 fn total_width_odd(h: &[u32], v: &[u32]) -> u32
-    requires { ⌜ Short (now h) ⌝ ∗ ⌜ Short (now v) ⌝ }
+    requires { ⌜ Short (now h) × Short (now v) ⌝ }
     ensures { λ r. ⌜ r ≡ widthTo odds (now (h .entry)) (now (v .entry)) 11 ⌝ }
 {
     run(h, 1) + run(v, 1) + run(h, 3) + run(v, 3) + run(h, 7) + run(v, 7) + run(h, 9) + run(v, 9)
@@ -91,8 +91,8 @@ fn circle_area_variance(horizontal: f32, vertical: f32) -> f32
 
 // The variance of row runs h and column runs v.
 pub fn calculate_circle_variance(h: &[u32], v: &[u32]) -> f32
-    requires { ⌜ Short (now h) ⌝ ∗ ⌜ Short (now v) ⌝ }
-    ensures { λ r. ⌜ r ≡ variance (now (h .entry)) (now (v .entry)) ⌝ }
+    requires { ⌜ Short (now h) × Short (now v) ⌝ }
+    ensures { λ r. ⌜ r ≡ circleVariance (now (h .entry)) (now (v .entry)) ⌝ }
 {
     let module_even = std::num::nearest_u32_to_f32(total_width_even(h, v)) / 10.0;
     let module_odd = std::num::nearest_u32_to_f32(total_width_odd(h, v)) / 10.0;

@@ -26,12 +26,11 @@ kept-requires judgeable fits = record {
 module _ {capacity found : ℕ} {before : List ℕ} (candidates : List Record) (holds : Holds capacity found before candidates) where
   -- by an answer and the records that it keeps
   judged : {answer k : ℕ} {kept : List Record} {r : Counts} {after : List ℕ} → verdict capacity candidates ≡ verdictOf answer candidates kept
-      → r ≡ record { answer = answer; found = found; kept = k } → k ≡ length kept → after ≡ laidOut capacity kept before → k ≤ capacity → rows k after ≡ kept
+      → r ≡ record { answer = answer; found = found; kept = k } → k ≡ length kept → after ≡ laidOut capacity kept before → rows k after ≡ kept
       → Judged capacity candidates before r after
-  judged {answer} {after = after} is made many laid low kept-rows = record {
+  judged {answer} {after = after} is made many laid kept-rows = record {
     counts = made ∙ ap₂ (λ (f m : ℕ). record { answer = answer; found = f; kept = m }) (holds .counted) many ∙ sym (ap (λ (v : Verdict). v .counts) is);
     laid = laid ∙ sym (ap (λ (v : Verdict). laidOut capacity (v .kept) before) is);
-    few = rw made low;
     records = ap (λ (c : Counts). rows (c .kept) after) made ∙ kept-rows ∙ sym (ap (λ (v : Verdict). v .kept) is);
   }
 
@@ -44,7 +43,7 @@ module _ {capacity found : ℕ} {before : List ℕ} (candidates : List Record) (
       let whole : 40 * capacity ≡ 40 * (capacity - 0) = omega arith in
       judged (rw (lt-ltb capacity (length candidates) above) refl) made refl
       (cleared ∙ ap₂ (λ (k n : ℕ). replicate k 0 ++ drop n before) whole (zero-add (40 * capacity)))
-      (omega arith) refl
+      refl
 
   module _ (fits : found ≤ capacity) {k : ℕ} {after : List ℕ} (ranks : KeptAndRanked found capacity before k after) where
     kept-are : ranked (rows found before) ≡ ranked candidates
@@ -69,10 +68,10 @@ module _ {capacity found : ℕ} {before : List ℕ} (candidates : List Record) (
         let nothing : ranked candidates ≡ [] = no-records (ranked candidates) empty in
         judged (rw (le-ltb capacity (length candidates) room, le-ltb 0 (length (ranked candidates)) empty) refl) made refl
         (laid-out ∙ ap (λ (rs : List Record). laidOut capacity rs before) nothing)
-        (omega arith) (ap (λ (n : ℕ). rows n after) (sym none) ∙ rows-are ∙ nothing)
+        (ap (λ (n : ℕ). rows n after) (sym none) ∙ rows-are ∙ nothing)
 
     pub some-kept : {r : Counts} → (k ≡ 0 → ⊥) → r ≡ record { answer = 0; found = found; kept = k } → Judged capacity candidates before r after
     unfolding verdict
     some-kept some made =
         let more : 0 < length (ranked candidates) = omega (arith, number) in
-        judged (rw (le-ltb capacity (length candidates) room, lt-ltb 0 (length (ranked candidates)) more) refl) made number laid-out (omega (arith, ranks .few)) rows-are
+        judged (rw (le-ltb capacity (length candidates) room, lt-ltb 0 (length (ranked candidates)) more) refl) made number laid-out rows-are

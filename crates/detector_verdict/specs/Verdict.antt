@@ -41,6 +41,5 @@ pub record Holds (capacity found : ℕ) (records : List ℕ) (candidates : List 
 pub record Judged (capacity : ℕ) (candidates : List Record) (before : List ℕ) (r : Counts) (after : List ℕ) : Type 0 where
   pub counts : r ≡ (verdict capacity candidates) .counts
   pub laid : after ≡ laidOut capacity ((verdict capacity candidates) .kept) before
-  pub few : r .kept ≤ capacity
   -- so the next step need not take `flat` apart
   pub records : rows (r .kept) after ≡ (verdict capacity candidates) .kept

@@ -1,20 +1,24 @@
--- What the counts are, by the answer. Assumes nothing.
+-- What the counts are, by the answer; so no more are kept than the capacity (`counted-few`). Assumes nothing.
 use Prim.Native.Nat.{ℕ, _+_, _≤_, _<_}
 use native.Mathlib.Omega.{arith}
 use mathlib.Core.Bool.{Bool, true, false}
 use mathlib.Core.List.{List}
+use mathlib.Core.Logic.{_⊎_, inl, inr, ⊎-elim}
 use mathlib.Core.Path.{_≡_, refl}
 use borrow.Author.Tests.{ltb-true, ltb-false}
 use lib.Dec.{ltb}
 use lib.ListN.{length}
 use Rattle.records.specs.Records.{Record, Each}
 use Rattle.detector_kept.specs.Kept.{ranked}
+use Rattle.detector_kept.specs.KeptLaws.{ranked-few}
 use Rattle.detector_verdict.specs.Verdict.{verdict}
 use Rattle.detector_verdict.specs.declared.Counts.{Counts}
 
--- with 0 some are kept, and no more were found than the capacity; with 7 one more was found, and none is kept; with 8 none is kept
+-- the answer is 0, 7 or 8; with 0 some of those found are kept, and no more were found than the capacity; with 7 one more was found, and none is kept; with 8 none
+-- is kept
 pub record Counted (capacity : ℕ) (c : Counts) : Type 0 where
-  pub zero : c .answer ≡ 0 → (c .found ≤ capacity) × (0 < c .kept)
+  pub answers : (c .answer ≡ 0) ⊎ (c .answer ≡ 7) ⊎ (c .answer ≡ 8)
+  pub zero : c .answer ≡ 0 → (c .found ≤ capacity) × (c .kept ≤ c .found) × (0 < c .kept)
   pub seven : c .answer ≡ 7 → (c .found ≡ capacity + 1) × (c .kept ≡ 0)
   pub eight : c .answer ≡ 8 → (c .found ≤ capacity) × (c .kept ≡ 0)
 
@@ -26,14 +30,19 @@ verdict-counted capacity candidates few = go (ltb capacity (length candidates)) 
         → Counted capacity ((verdict capacity candidates) .counts)
     go true some e f =
         let above : capacity < length candidates = ltb-true _ _ e in
-        rw e (record { zero = λ z. absurd (omega arith); seven = λ z. (omega arith, refl); eight = λ z. absurd (omega arith) })
+        rw e (record { answers = inr (inl refl); zero = λ z. absurd (omega arith); seven = λ z. (omega arith, refl); eight = λ z. absurd (omega arith) })
     go false true e f =
         let below : length candidates ≤ capacity = ltb-false _ _ e in
         let kept : 0 < length (ranked candidates) = ltb-true _ _ f in
-        rw (e, f) (record { zero = λ z. (below, kept); seven = λ z. absurd (omega arith); eight = λ z. absurd (omega arith) })
+        rw (e, f) (record { answers = inl refl; zero = λ z. (below, ranked-few candidates, kept); seven = λ z. absurd (omega arith); eight = λ z. absurd (omega arith) })
     go false false e f =
         let below : length candidates ≤ capacity = ltb-false _ _ e in
-        rw (e, f) (record { zero = λ z. absurd (omega arith); seven = λ z. absurd (omega arith); eight = λ z. (below, refl) })
+        rw (e, f) (record { answers = inr (inr refl); zero = λ z. absurd (omega arith); seven = λ z. absurd (omega arith); eight = λ z. (below, refl) })
+
+-- whichever the answer, there is room for the records that are kept
+pub counted-few : {capacity : ℕ} {c : Counts} → Counted capacity c → c .kept ≤ capacity
+counted-few {capacity} {c} counted =
+    ⊎-elim (λ e. omega (arith, counted .zero e)) (⊎-elim (λ e. omega (arith, counted .seven e)) (λ e. omega (arith, counted .eight e))) (counted .answers)
 
 -- ---- the kept records
 

@@ -1,18 +1,23 @@
--- What walks read, by computation, at 0 degrees in a white image. Assumes nothing.
+-- What walks read in a white image at 0 and 180 degrees, where the sine is 0, and where those to the right end, by computation. Assumes nothing.
 use Prim.Native.Nat.{ℕ}
 use mathlib.Core.List.{List, [], _∷_}
+use mathlib.Core.Bool.{false}
 use mathlib.Core.Path.{_≡_, refl}
-use lib.ListN.{replicate}
+use lib.ListN.{length, take, replicate}
 use lib.Ieee.{ofBits, ofInt, add, sub, mul, toUnsigned}
 use Rattle.ieee.specs.Sign.{abs}
-use Rattle.reads.specs.Reads.{_>>=_, value, trace}
+use Rattle.reads.specs.Reads.{Reads, _>>=_, value, trace}
 use Rattle.reads.specs.Bits.{testBit, bitAt}
+use Rattle.reads.specs.Runs.{valueOf}
 use Rattle.sines.specs.Sines.{sineOf, angleOf}
+use Rattle.sines.specs.Rules.{scaled}
 use Rattle.bit_matrix.specs.declared.Shape.{Shape}
 use Rattle.bit_matrix.specs.Shape.{shapeOf}
 use Rattle.bit_matrix.specs.Pixels.{pixel}
-use Rattle.rxing_result_point.specs.Points.{turned}
-use Rattle.detector_walks.specs.Walks.{whitePixel, leftFrom, rightFrom}
+use Rattle.rxing_result_point.specs.declared.Point.{Point}
+use Rattle.rxing_result_point.specs.declared.PointU.{PointU}
+use Rattle.rxing_result_point.specs.Points.{real, turned}
+use Rattle.detector_walks.specs.Walks.{whitePixel, stepsOf, leftFrom, rightFrom, walk}
 
 -- two rows of one word
 abbrev twoRows : Shape
@@ -26,11 +31,24 @@ pub column-0-read : trace (leftFrom twoRows (record { x = 2; y = 1 }) (angleOf 0
 unfolding trace value _>>=_ testBit bitAt pixel whitePixel leftFrom turned sineOf ofBits ofInt add sub mul toUnsigned abs
 column-0-read = refl
 
--- past the last column of a row the next row's bits are read, and past the last word nothing
-pub next-row-read : trace (rightFrom twoRows (record { x = 62; y = 0 }) (angleOf 0) 3 63) (bitAt white) ≡ 63 ∷ 64 ∷ 65 ∷ []
-unfolding trace value _>>=_ testBit bitAt pixel whitePixel rightFrom turned sineOf ofBits ofInt add sub mul toUnsigned abs
-next-row-read = refl
+-- to the right
+abbrev right : PointU → ℕ → Reads Point
+right center degree = walk twoRows center (angleOf degree) false
 
-pub past-last-word-unread : trace (rightFrom twoRows (record { x = 62; y = 1 }) (angleOf 0) 3 63) (bitAt white) ≡ 127 ∷ []
-unfolding trace value _>>=_ testBit bitAt pixel whitePixel rightFrom turned sineOf ofBits ofInt add sub mul toUnsigned abs
-past-last-word-unread = refl
+-- past the last column of a row the next row's bits are read, and the walk ends past the last word, where nothing is read
+pub next-row-read : (take 3 (trace (right (record { x = 62; y = 0 }) 0) (bitAt white)) ≡ 63 ∷ 64 ∷ 65 ∷ [])
+    × (valueOf (right (record { x = 62; y = 0 }) 0) white ≡ record { x = real 128; y = real 0 })
+unfolding valueOf trace value _>>=_ testBit bitAt pixel whitePixel stepsOf rightFrom walk turned sineOf scaled ofBits ofInt add sub mul toUnsigned abs
+next-row-read = (refl, refl)
+
+pub past-last-word-unread : (trace (right (record { x = 62; y = 1 }) 0) (bitAt white) ≡ 127 ∷ [])
+    × (valueOf (right (record { x = 62; y = 1 }) 0) white ≡ record { x = real 64; y = real 1 })
+unfolding valueOf trace value _>>=_ testBit bitAt pixel whitePixel stepsOf rightFrom walk turned sineOf scaled ofBits ofInt add sub mul toUnsigned abs
+past-last-word-unread = (refl, refl)
+
+-- at 180 degrees the column falls to 0 and grows again, until it is past the last word: the row's 64 bits are read, column 1's twice
+pub mirrored-at-column-0 : (take 4 (trace (right (record { x = 2; y = 1 }) 180) (bitAt white)) ≡ 65 ∷ 64 ∷ 65 ∷ 66 ∷ [])
+    × (length (trace (right (record { x = 2; y = 1 }) 180) (bitAt white)) ≡ 65)
+    × (valueOf (right (record { x = 2; y = 1 }) 180) white ≡ record { x = real 64; y = real 1 })
+unfolding valueOf trace value _>>=_ testBit bitAt pixel whitePixel stepsOf rightFrom walk turned sineOf scaled ofBits ofInt add sub mul toUnsigned abs
+mirrored-at-column-0 = (refl, refl, refl)

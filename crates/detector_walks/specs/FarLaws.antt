@@ -1,13 +1,13 @@
 -- How large a float is at least, through Rust's operators at binary32: `Far s n x` says that x has the sign s and is n or more in size, an infinity included.
 -- And where whole numbers are kept exactly: `HasValue x s n 1`. Assumes nothing.
 use mathlib.Core.Path.{_≡_, refl, sym, ap, _∙_}
-use mathlib.Core.Bool.{Bool, true, false, cond, true≢false}
+use mathlib.Core.Bool.{Bool, true, false, not, cond, true≢false}
 use Prim.Native.Nat.{ℕ, zero, suc, _+_, _-_, _*_, _^_, _≤_, _<_}
 use native.Mathlib.Nat.{le-trans, le-of-eq, mul-comm, mul-assoc, mul-one, zero-mul, mul-zero, mul-right-comm, mul-mul-mul-comm, mul-le-mul-right, le-of-mul-le-mul-right, mul-pos, le-div-iff-mul-le, mul-sub, add-mul}
 use native.Mathlib.Omega.{arith}
 use lib.Dec.{T, ltb}
 use lib.Pow.{pow-pos}
-use lib.Ieee.{Float, nan, inf, fin, binary32, up, down, round, units, odd, sum, add, sub, mul, le, toUnsigned, unlike}
+use lib.Ieee.{Float, nan, inf, fin, binary32, up, down, round, units, odd, sum, neg, add, sub, mul, le, toUnsigned, unlike}
 use lib.Ieee.Fits.{down-pos, round-is}
 use lib.Ieee.Exact.{HasValue}
 use lib.Ieee.Back.{round-whole}
@@ -155,6 +155,17 @@ add-zero-far s t (fin w m e) (fin w' k d) n N small p q =
     let nothing : k * up d * down e ≡ 0 = ap (λ (z : ℕ). z * down e) none ∙ zero-mul (down e) in
     rw (p .0) (other-far s w' (m * up e * down d) (k * up d * down e) (down e * down d) n N small (mul-pos (down-pos e) (down-pos d))
     (omega (arith, spread n (m * up e) (down e) (down d) (p .1))))
+
+-- a zero taken away is one added, of the other sign
+neg-zero : (t : Bool) (z : Float) → HasValue z t 0 1 → HasValue (neg z) (not t) 0 1
+unfolding neg
+neg-zero t nan q = absurd q
+neg-zero t (inf w) q = absurd q
+neg-zero t (fin w k d) q = (ap not (q .0), q .1)
+
+pub sub-zero-far : (s t : Bool) (x z : Float) (n : ℕ) → 0 < n → n ≤ 2 ^ 24 → Far s n x → HasValue z t 0 1 → Far s n (sub binary32 x z)
+unfolding sub
+sub-zero-far s t x z n N small p q = add-zero-far s (not t) x (neg z) n N small p (neg-zero t z q)
 
 pub add-far : (x y : Float) (n b : ℕ) → 0 < n → n ≤ 2 ^ 24 → Far false n x → HasValue y false b 1 → Far false n (add binary32 x y)
 unfolding add

@@ -1,72 +1,96 @@
--- How many steps a walk to the right takes at most: few at every degree with a sine, and under 17,000 at 7 and 97 degrees.
--- The bounds are tests that antt computes over the table of sines. Assumes nothing.
-use mathlib.Core.Path.{subst}
-use mathlib.Core.Bool.{Bool, _||_}
-use Prim.Native.Nat.{ℕ, suc, _+_, _*_, _/_, _%_, _^_, _<_, _≤_}
+-- How many steps a walk to the right takes at most: few enough at every degree for f32 to count them, and under 17,000 at 7 and 97 degrees. And what is
+-- known of the sine and the cosine there. The bounds are tests that antt computes over the table of sines. Assumes nothing.
+use mathlib.Core.Path.{_≡_, sym, subst}
+use mathlib.Core.Bool.{Bool, not, _||_}
+use Prim.Native.Nat.{ℕ, zero, suc, _+_, _*_, _/_, _%_, _^_, _<_, _≤_}
 use native.Mathlib.Nat.{mod-lt, mul-comm, le-of-eq, le-trans, le-of-lt, div-lt-iff-lt-mul}
 use native.Mathlib.Omega.{arith}
-use lib.Dec.{T, leb, eqb, leb→le, lit<, eqb·suc-zero}
-use lib.IntN.{ℤ, natAbs}
-use lib.Ieee.{Float, ofBits}
+use lib.Dec.{T, leb, eqb, leb→le, eqb→eq, lit<}
+use lib.IntN.{ℤ, pos, negsuc, natAbs}
+use lib.Ieee.{ofBits}
+use lib.Ieee.Exact.{HasValue}
+use Rattle.bit_matrix.specs.declared.Shape.{Shape}
+use Rattle.bit_matrix.specs.Shape.{shapeOf, size, Limits}
+use Rattle.sines.specs.declared.Angle.{Angle}
 use Rattle.sines.specs.Sines.{sineOf, angleOf}
-use Rattle.sines.specs.Rules.{scaled, scaledSine}
-use Rattle.sines.specs.Laws.{sine-mod, sine-rules}
+use Rattle.sines.specs.Rules.{scaled, scaledSine, scaledCosine, negative}
+use Rattle.sines.specs.Laws.{sine-mod, sine-mod-add, sine-rules}
 use Rattle.sines.specs.Every.{every, every-at}
-use Rattle.detector_walks.specs.Walks.{reachOf, stepsOf, stepsRight, Sloped, Slanted}
+use Rattle.detector_walks.specs.Walks.{stepsOf, stepsRight, OfDegree}
 
--- ---- so many steps reach far enough
-pub steps-reach : (u : ℤ) → 0 < natAbs u → reachOf u * 2 ^ 29 ≤ natAbs u * stepsOf u
+-- ---- steps of n units each pass so many units
+pub steps-reach : (n far : ℕ) → far ≤ suc n * (far / suc n + 1)
+steps-reach n far =
+    let some : 0 < suc n = omega arith in
+    let over : far < (far / suc n + 1) * suc n = div-lt-iff-lt-mul some .0 (omega arith) in
+    le-trans (le-of-lt over) (le-of-eq (mul-comm (far / suc n + 1) (suc n)))
+
+pub steps-some : (shape : Shape) (u : ℤ) → 0 < stepsOf shape u
 unfolding stepsOf
-steps-reach u h =
-    let n = reachOf u * 2 ^ 29 in
-    let over : n < (n / natAbs u + 1) * natAbs u = div-lt-iff-lt-mul h .0 (omega arith) in
-    le-trans (le-of-lt over) (le-of-eq (mul-comm (n / natAbs u + 1) (natAbs u)))
+steps-some shape (pos zero) = omega arith
+steps-some shape (pos (suc n)) = omega arith
+steps-some shape (negsuc n) = omega arith
 
-pub steps-some : (u : ℤ) → 0 < stepsOf u
+-- ---- an image's words add steps only where the sine is 0
+abbrev none : Shape
+none = shapeOf 0 0
+
+steps-more : (shape : Shape) (u : ℤ) → stepsOf shape u ≤ 64 * size shape + stepsOf none u
 unfolding stepsOf
-steps-some u = omega arith
+steps-more shape (pos zero) = omega arith
+steps-more shape (pos (suc n)) = omega arith
+steps-more shape (negsuc n) = omega arith
 
--- ---- at each degree with a sine other than zero the steps are few enough for f32 to count them
 fewAt : ℕ → Bool
-fewAt d = eqb (natAbs (scaledSine d)) 0 || leb (stepsRight (sineOf d)) (2 ^ 18)
+fewAt d = leb (stepsOf none (scaledSine d)) (2 ^ 18)
 
 few-pass : T (every fewAt 360)
 unfolding fewAt stepsOf sineOf scaled ofBits
 few-pass = tt
 
-few-of : (u n : ℕ) → 0 < u → T (eqb u 0 || leb n (2 ^ 18)) → n ≤ 2 ^ 18
-few-of (suc u) n h t = leb→le n (2 ^ 18) (subst (λ (b : Bool). T (b || leb n (2 ^ 18))) (eqb·suc-zero u) t)
+-- ---- where the sine is 0 the cosine is 1 or -1
+flatAt : ℕ → Bool
+flatAt d = not (eqb (natAbs (scaledSine d)) 0) || eqb (natAbs (scaledCosine d)) (2 ^ 29)
 
-steps-few : (degree : ℕ) → Sloped degree → stepsRight (sineOf degree) ≤ 2 ^ 18
-unfolding fewAt
-steps-few degree =
-    subst (λ (x : Float). 0 < natAbs (scaled x) → stepsRight x ≤ 2 ^ 18) (sine-mod degree)
-    (λ (h : Sloped d). few-of (natAbs (scaledSine d)) (stepsRight (sineOf d)) h (every-at fewAt 360 few-pass d (mod-lt degree (lit< tt))))
-  where
-    d : ℕ
-    d = degree % 360
+flat-pass : T (every flatAt 360)
+unfolding flatAt sineOf scaled ofBits
+flat-pass = tt
 
-pub slanted : (degree : ℕ) → Sloped degree → Slanted (angleOf degree)
-slanted degree h = record {
-  turns = h;
-  few = steps-few degree h;
-  sine = sine-rules degree .whole;
-  cosine = sine-rules (degree + 90) .whole;
-}
+flat-of : (m n : ℕ) → T (not (eqb m 0) || eqb n (2 ^ 29)) → m ≡ 0 → n ≡ 2 ^ 29
+flat-of m n t e = eqb→eq n (2 ^ 29) (subst (λ (k : ℕ). T (not (eqb k 0) || eqb n (2 ^ 29))) e t)
+
+-- ---- at every degree
+pub record Rules (angle : Angle) : Type 0 where
+  pub sine : HasValue (angle .sin) (negative (scaled (angle .sin))) (natAbs (scaled (angle .sin))) (2 ^ 29)
+  pub cosine : HasValue (angle .cos) (negative (scaled (angle .cos))) (natAbs (scaled (angle .cos))) (2 ^ 29)
+  pub flat : natAbs (scaled (angle .sin)) ≡ 0 → natAbs (scaled (angle .cos)) ≡ 2 ^ 29
+  pub few : stepsRight none angle ≤ 2 ^ 18
+
+module _ (degree : ℕ) where
+  abbrev one : ℕ
+  one = degree % 360
+
+  rules-at : Rules (angleOf degree)
+  unfolding fewAt flatAt
+  rules-at = record {
+    sine = sine-rules degree .whole;
+    cosine = sine-rules (degree + 90) .whole;
+    flat = rw (← sine-mod degree, ← sine-mod-add degree 90) (flat-of _ _ (every-at flatAt 360 flat-pass one (mod-lt degree (lit< tt))));
+    few = rw (← sine-mod degree) (leb→le _ (2 ^ 18) (every-at fewAt 360 few-pass one (mod-lt degree (lit< tt))));
+  }
+
+module _ {angle : Angle} (of : OfDegree angle) where
+  pub rules : Rules angle
+  rules = subst Rules (sym (of .is)) (rules-at (of .degree))
+
+  pub steps-few : {shape : Shape} → Limits shape → stepsRight shape angle ≤ 2 ^ 20
+  steps-few {shape} limits = omega (arith, steps-more shape (scaled (angle .sin)), rules .few, limits .words-most)
 
 -- ---- the degrees that are walked
-pub sloped-7 : Sloped 7
-unfolding sineOf scaled ofBits
-sloped-7 = lit< tt
-
-pub sloped-97 : Sloped 97
-unfolding sineOf scaled ofBits
-sloped-97 = lit< tt
-
-pub steps-at-7 : stepsRight (sineOf 7) < 17000
+pub steps-at-7 : (shape : Shape) → stepsRight shape (angleOf 7) < 17000
 unfolding stepsOf sineOf scaled ofBits
-steps-at-7 = lit< tt
+steps-at-7 shape = lit< tt
 
-pub steps-at-97 : stepsRight (sineOf 97) < 17000
+pub steps-at-97 : (shape : Shape) → stepsRight shape (angleOf 97) < 17000
 unfolding stepsOf sineOf scaled ofBits
-steps-at-97 = lit< tt
+steps-at-97 shape = lit< tt

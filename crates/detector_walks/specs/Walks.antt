@@ -1,19 +1,18 @@
 -- `find_width_at_degree` of detector.rs: the walks to the left and to the right as reading programs, which points they look at, where they end, and in how
 -- many steps to the right at most. Definitions only. Assumes nothing.
-use Prim.Native.Nat.{ℕ, zero, suc, _+_, _*_, _/_, _^_, _≤_, _<_}
+use Prim.Native.Nat.{ℕ, zero, suc, _+_, _*_, _/_, _^_}
 use mathlib.Core.Bool.{Bool, true, false, not, cond}
 use mathlib.Core.List.{List}
 use mathlib.Core.Path.{_≡_}
-use lib.IntN.{ℤ, natAbs}
+use lib.IntN.{ℤ, pos, negsuc}
 use lib.Ieee.{Float, toUnsigned}
-use lib.Ieee.Exact.{HasValue}
 use Rattle.reads.specs.Reads.{Reads, done, _>>=_}
 use Rattle.bit_matrix.specs.declared.Shape.{Shape}
-use Rattle.bit_matrix.specs.Shape.{Image, Inside}
+use Rattle.bit_matrix.specs.Shape.{size, Image, Inside}
 use Rattle.bit_matrix.specs.Pixels.{pixel, outOfRange}
 use Rattle.sines.specs.declared.Angle.{Angle}
 use Rattle.sines.specs.Sines.{sines, angleOf}
-use Rattle.sines.specs.Rules.{scaled, scaledSine, negative}
+use Rattle.sines.specs.Rules.{scaled}
 use Rattle.rxing_result_point.specs.declared.Point.{Point}
 use Rattle.rxing_result_point.specs.declared.PointU.{PointU}
 use Rattle.rxing_result_point.specs.Points.{turned}
@@ -27,17 +26,16 @@ walkPoint center angle x = turned center (record { x = x; y = center .y }) angle
 abbrev pub firstColumn : PointU → Bool → ℕ
 firstColumn center left = cond left (center .x) (center .x + 1)
 
--- The rows that a walk to the right passes until every point is past the last word: 2,048 where rows grow. Where the sine is negative they fall, and grow
--- again from row 0: at most as many more. `u` is the sine in units of 2 ^ -29.
-abbrev pub reachOf : ℤ → ℕ
-reachOf u = cond (negative u) 4096 2048
+-- Within so many steps a walk to the right has ended (`right-ends`, WalksLaws.antt), by the sine in units of 2 ^ -29. Where it is 0 the row stays, and the
+-- columns of all words are passed, at 180 degrees after the way to column 0. Where the rows grow, 2,048 are passed. Where they fall, they grow again from row
+-- 0: at most as many more.
+unfoldable pub stepsOf : Shape → ℤ → ℕ
+stepsOf shape (pos zero) = 64 * size shape + 4096
+stepsOf shape (pos (suc n)) = 2048 * 2 ^ 29 / suc n + 1
+stepsOf shape (negsuc n) = 4096 * 2 ^ 29 / suc n + 1
 
--- where the sine is not 0, a walk to the right ends within so many steps (`before-end`, WalksLaws.antt)
-unfoldable pub stepsOf : ℤ → ℕ
-stepsOf u = reachOf u * 2 ^ 29 / natAbs u + 1
-
-abbrev pub stepsRight : Float → ℕ
-stepsRight sin = stepsOf (scaled sin)
+abbrev pub stepsRight : Shape → Angle → ℕ
+stepsRight shape angle = stepsOf shape (scaled (angle .sin))
 
 module _ (shape : Shape) where
   -- the loops' test: in range and white
@@ -69,7 +67,7 @@ module _ (shape : Shape) where
     -- the walk to the left (true), or to the right
     unfoldable pub walk : Bool → Reads Point
     walk true = leftFrom (firstColumn center true)
-    walk false = rightFrom (stepsRight (angle .sin)) (firstColumn center false)
+    walk false = rightFrom (stepsRight shape angle) (firstColumn center false)
 
     -- both walks
     unfoldable pub findEnds : Reads Ends
@@ -88,13 +86,7 @@ pub record Lent (shape : Shape) (words marks : List ℕ) (center : PointU) (tabl
   pub inside : Inside shape (center .x) (center .y)
   pub table-is : table ≡ sines
 
--- a degree whose sine is not 0: there a walk to the right ends for certain
-abbrev pub Sloped : ℕ → Type 0
-Sloped degree = 0 < natAbs (scaledSine degree)
-
--- what the proof of that asks of sine and cosine
-pub record Slanted (angle : Angle) : Type 0 where
-  pub turns : 0 < natAbs (scaled (angle .sin))
-  pub few : stepsRight (angle .sin) ≤ 2 ^ 18
-  pub sine : HasValue (angle .sin) (negative (scaled (angle .sin))) (natAbs (scaled (angle .sin))) (2 ^ 29)
-  pub cosine : HasValue (angle .cos) (negative (scaled (angle .cos))) (natAbs (scaled (angle .cos))) (2 ^ 29)
+-- the angle of some degree
+pub record OfDegree (angle : Angle) : Type 0 where
+  pub degree : ℕ
+  pub is : angle ≡ angleOf degree

@@ -9,7 +9,7 @@ ghost use mathlib.Core.Path.{_≡_};
 ghost use Prim.Native.Nat.{_+_, _^_, _≤_, _<_};
 ghost use Rattle.reads.specs.Runs.{Ran};
 ghost use Rattle.bit_matrix.specs.Shape.{Image, Inside};
-ghost use Rattle.detector_walks.specs.Walks.{walkPoint, whitePixel, whitePoint, firstColumn, walk, findWidthAtDegree, Slanted, Sloped, Lent};
+ghost use Rattle.detector_walks.specs.Walks.{walkPoint, whitePixel, whitePoint, firstColumn, walk, findWidthAtDegree, OfDegree, Lent};
 
 // The points where the two walks at a degree end.
 pub struct Ends {
@@ -77,7 +77,7 @@ fn walk(
     angle: Angle,
     left: bool,
 ) -> Point
-    requires { ⌜ Image shape (now words) (now marks) × Inside shape (center .x) (center .y) × Slanted angle ⌝ }
+    requires { ⌜ Image shape (now words) (now marks) × Inside shape (center .x) (center .y) × OfDegree angle ⌝ }
     ensures { λ r. ⌜ Ran (walk shape center angle left) (now (words .entry)) (now (marks .entry)) r (now (marks .exit)) ⌝ }
 {
     let mut x = first_column(center, left);
@@ -94,7 +94,7 @@ fn walk(
     walk_point(center, angle, x)
 }
 
-// Both walks. At a degree with a sine other than 0 the walk to the right ends for certain.
+// Both walks. They end at every degree.
 pub fn find_width_at_degree(
     words: &[u64],
     marks: &mut [u64],
@@ -103,7 +103,7 @@ pub fn find_width_at_degree(
     table: &[f32; 360],
     degree: u32,
 ) -> Ends
-    requires { ⌜ Lent shape (now words) (now marks) center (now table) × Sloped degree ⌝ }
+    requires { ⌜ Lent shape (now words) (now marks) center (now table) ⌝ }
     ensures { λ r. ⌜ Ran (findWidthAtDegree shape center degree) (now (words .entry)) (now (marks .entry)) r (now (marks .exit)) ⌝ }
 {
     let angle = sines::angle_of(table, degree);

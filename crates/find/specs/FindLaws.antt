@@ -1,21 +1,25 @@
--- What the program's lent words and its 65,536 bytes of input give. Assumes nothing.
-use Prim.Native.Nat.{ℕ, _*_, _≤_, _<_}
+-- What the program's lent words, its 400 records and its 65,536 bytes of input give. Assumes nothing.
+use Prim.Native.Nat.{ℕ, zero, suc, _*_, _≤_, _<_}
 use native.Mathlib.Nat.{mul-assoc, mul-le-mul-right}
 use native.Mathlib.Omega.{arith}
 use mathlib.Core.Bool.{Bool, true, false, cond}
-use mathlib.Core.List.{List}
+use mathlib.Core.List.{List, [], _∷_}
 use mathlib.Core.Path.{_≡_, refl, sym, ap, _∙_}
 use borrow.Author.Tests.{eqb-true, ltb-true, ltb-false, eq-eqb, ne-eqb}
 use lib.Dec.{eqb, ltb}
-use lib.ListN.{length, take}
+use lib.ListN.{length, take, replicate}
 use lib.Seq.{take-all}
 use Rattle.bit_matrix.specs.Shape.{rowWords, shapeOf, size}
 use Rattle.crop.specs.Crop.{rowBytes, fileShape, fileWords, width, height, orElse, unpackRoom, searchRoom, refusal, fileRefusal, fileKind, leastSide, Checks}
 use Rattle.crop.specs.CropLaws.{file-accepted, checked-shape, file-accepted-by}
 use Rattle.crop.specs.declared.Checked.{Checked}
 use Rattle.crop.specs.PrefixLaws.{refusal-prefix}
-use Rattle.detector.specs.Detector.{filed, refusedRun, refusedOr, fileRun}
-use Rattle.find.specs.Find.{lentWords}
+use Rattle.detector.specs.Detector.{run, FileRun, filed, refusedRun, refusedOr, fileRun}
+use Rattle.detector.specs.DetectorLaws.{file-few}
+use Rattle.detector.specs.declared.Report.{Report}
+use Rattle.text.specs.Text.{Puts}
+use Rattle.text.specs.TextLaws.{puts-as}
+use Rattle.find.specs.Find.{lentWords, textOf, printed}
 
 -- the words of a file that was checked: no image has more than 8,000
 pub lent-by : {c : Checked} {n : ℕ} → n ≡ size (c .shape) → (file : List ℕ) → Checks file c → (n ≡ lentWords file) × (n ≤ 8000)
@@ -40,6 +44,27 @@ never-six file = go (eqb (refusal file) 0) refl
     go true e = rw (e, eq-eqb (fileWords file) (fileWords file) refl) (sym (eqb-true _ _ e))
     go false e = rw (e, e) refl
 
+-- the buffer has room for 400 records, and no more are kept
+pub kept-few : (file words records marks : List ℕ) {words′ records′ marks′ : List ℕ} {r : Report}
+    → filed words′ (run r records′ marks′) ≡ fileRun file words records marks → length records ≡ 16000 → r .kept ≤ 400
+kept-few file words records marks searched long =
+    omega (arith, ap (λ (x : FileRun). x .run .report .kept) searched, file-few file words records marks)
+
+-- the start of a buffer of zeros
+pub take-zeros : (n m : ℕ) → n ≤ m → take n (replicate m 0) ≡ replicate {A = ℕ} n 0
+take-zeros zero m h = refl
+take-zeros (suc n) zero h = absurd (omega arith)
+take-zeros (suc n) (suc m) h = ap (λ (l : List ℕ). 0 ∷ l) (take-zeros n m (omega arith))
+
+-- the text of a search with these buffers lent is what is printed
+pub puts-printed : (file : List ℕ) {n : ℕ} (lent : List ℕ) {words′ records′ marks′ : List ℕ} {r : Report} {next : ℕ} {before after : List ℕ}
+    → n ≡ lentWords file → lent ≡ replicate n 0 → filed words′ (run r records′ marks′) ≡ fileRun file lent (replicate 16000 0) lent
+    → Puts (textOf (run r records′ marks′)) 0 before next after → Puts (printed file) 0 before next after
+unfolding printed
+puts-printed file lent size zeros searched puts =
+    let are : lent ≡ replicate (lentWords file) 0 = zeros ∙ ap (λ (k : ℕ). replicate k 0) size in
+    puts-as (ap (λ (x : FileRun). textOf (x .run)) (searched ∙ ap (λ (l : List ℕ). fileRun file l (replicate 16000 0) l) are)) puts
+
 -- ---- an input of more than 65,536 bytes is refused as its start is
 
 refused-long : (file : List ℕ) → 65536 < length file → refusal file ≡ 0 → ⊥
@@ -60,7 +85,13 @@ refused-run : (file words records marks : List ℕ) (n : ℕ) → refusal file �
 unfolding fileRun fileRefusal orElse refusedOr
 refused-run file words records marks n e refused = rw (e, ne-eqb n 0 refused, ne-eqb n 0 refused, ne-eqb n 0 refused) refl
 
--- so the program reads no more of it, and what it prints is that of the whole input
+printed-refused : (file : List ℕ) (n : ℕ) → refusal file ≡ n → (n ≡ 0 → ⊥) → printed file ≡ textOf (refusedRun (replicate 16000 0) [] n)
+unfolding printed
+printed-refused file n e refused =
+    let lent : List ℕ = replicate (lentWords file) 0 in
+    ap (λ (x : FileRun). textOf (x .run)) (refused-run file lent (replicate 16000 0) lent n e refused)
+
+-- so the program reads no more of it: the run of the start is that of the whole input, whatever is lent, and so is what is printed
 pub start-is-enough : (input words records marks : List ℕ) → fileRun (take 65536 input) words records marks ≡ fileRun input words records marks
 start-is-enough input words records marks = go (ltb 65536 (length input)) refl
   where
@@ -71,3 +102,14 @@ start-is-enough input words records marks = go (ltb 65536 (length input)) refl
         refused-run (take 65536 input) words records marks (refusal input) same (refused-long input long)
         ∙ sym (refused-run input words records marks (refusal input) refl (refused-long input long))
     go false e = ap (λ (file : List ℕ). fileRun file words records marks) (take-all 65536 input (ltb-false _ _ e))
+
+pub printed-start : (input : List ℕ) → printed (take 65536 input) ≡ printed input
+printed-start input = go (ltb 65536 (length input)) refl
+  where
+    go : (b : Bool) → ltb 65536 (length input) ≡ b → printed (take 65536 input) ≡ printed input
+    go true e =
+        let long : 65536 < length input = ltb-true _ _ e in
+        let same : refusal (take 65536 input) ≡ refusal input = refusal-prefix fileKind leastSide input 65536 (omega arith) (omega arith) in
+        printed-refused (take 65536 input) (refusal input) same (refused-long input long)
+        ∙ sym (printed-refused input (refusal input) refl (refused-long input long))
+    go false e = ap printed (take-all 65536 input (ltb-false _ _ e))

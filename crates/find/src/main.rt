@@ -5,9 +5,9 @@ ghost use Prim.Native.Nat.{ℕ, _≤_};
 ghost use lib.ListN.{length};
 ghost use Rattle.bit_matrix.specs.Shape.{rowWords};
 ghost use Rattle.crop.specs.Crop.{Checks};
-ghost use Rattle.find.specs.Find.{lentWords};
+ghost use Rattle.text.specs.Text.{Puts};
+ghost use Rattle.find.specs.Find.{lentWords, printed};
 use crop::Checked;
-use detector::Report;
 use libc::STDIN_FILENO;
 use libc::STDOUT_FILENO;
 
@@ -19,52 +19,38 @@ fn lent_words(checked: Checked) -> usize
     crop::image_words(checked.shape)
 }
 
-fn print_report(report: Report) {
-    let mut line = [0u8; 80];
-    let end = text::put_report(
-        &mut line,
-        0,
+// All that is printed of a crop file: it is checked and searched, and its lines are put into a buffer.
+fn put_lines(file: &[u8], text: &mut [u8]) -> usize
+    requires { ⌜ 80080 ≤ length (now text) ⌝ }
+    ensures { λ r. ⌜ Puts (printed (now (file .entry))) 0 (now (text .entry)) r (now (text .exit)) ⌝ }
+{
+    let checked = crop::check_file(file);
+    let size = lent_words(checked);
+    let mut words = [0u64; 8000];
+    let mut marks = [0u64; 8000];
+    let mut records = [0u32; 16000];
+    let report = detector::search_checked(
+        file,
+        checked,
+        &mut words[..size],
+        &mut records,
+        &mut marks[..size],
+    );
+    text::put_run(
+        text,
         report.answer,
         report.found,
         report.kept,
         report.marked,
-    );
-    io::write_all(STDOUT_FILENO, &line[..end]);
+        &records,
+    )
 }
 
-fn print_record(fields: [u32; 40]) {
-    let mut line = [0u8; 200];
-    let end = text::put_record(&mut line, 0, fields);
-    io::write_all(STDOUT_FILENO, &line[..end]);
-}
-
-// The first `kept` records, of the 400 that the buffer holds.
-fn print_records(buffer: &[u32], kept: usize)
-    requires { ⌜ length (now buffer) ≡ 16000 ⌝ }
-{
-    let mut i = 0;
-    while i < kept && i < 400 {
-        print_record(records::load(buffer, i));
-        i += 1;
-    }
-}
-
-// Of a longer input 65,536 bytes are read: no accepted crop has more than 64,004, and the rest does not change the answer.
+// Of a longer input 65,536 bytes are read: no accepted crop has more than 64,004, and the rest does not change what is printed.
 fn main() {
     let mut input = io::large_buffer();
     let n = io::read_full(STDIN_FILENO, &mut input);
-    let checked = crop::check_file(&input[..n]);
-    let size = lent_words(checked);
-    let mut words = [0u64; 8000];
-    let mut marks = [0u64; 8000];
-    let mut buffer = [0u32; 16000];
-    let report = detector::search_checked(
-        &input[..n],
-        checked,
-        &mut words[..size],
-        &mut buffer,
-        &mut marks[..size],
-    );
-    print_report(report);
-    print_records(&buffer, report.kept as usize);
+    let mut text = [0u8; 80080];
+    let end = put_lines(&input[..n], &mut text);
+    io::write_all(STDOUT_FILENO, &text[..end]);
 }

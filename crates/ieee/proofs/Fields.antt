@@ -73,13 +73,13 @@ in-fields f s (suc y) t p = go (eqb (suc y) (ones f)) (eqb-false (suc y) (ones f
 below-top : (t b : ℕ) → leb t b ≡ false → b < t
 below-top t b h = nleb→lt t b (subst (λ (k : Bool). T (not k)) (sym h) tt)
 
-pub record Plain (f : Format) (x : Float) (b : ℕ) : Type 0 where
+pub record PlainFields (f : Format) (x : Float) (b : ℕ) : Type 0 where
   pub unsigned : b < top f
   pub fields : InFields f x false (b / hid f) (b % hid f)
 
-pub plain : (f : Format) (x : Float) → T (fits f x) → T (positive x) → Plain f x (toBits f x)
+pub plain-fields : (f : Format) (x : Float) → T (fits f x) → T (positive x) → PlainFields f x (toBits f x)
 unfolding ofBits
-plain f x fit p =
+plain-fields f x fit p =
     let b = toBits f x in
     let s = leb (top f) b in
     let back : ofFields f s (b % top f / hid f) (b % hid f) ≡ x = ofBits-toBits f x fit in
@@ -100,9 +100,9 @@ pub record Pattern (x : Float) (b : ℕ) : Type 0 where
   pub large : (h : ℕ) → b / 2 ^ 52 ≡ suc h → (2 ^ 52 + b % 2 ^ 52) * 2 ^ h ≡ unitsOf binary64 x
 
 pub pattern : (x : Float) → T (fits binary64 x) → T (positive x) → Pattern x (toBits binary64 x)
-pattern x fit p = go (toBits binary64 x) (plain binary64 x fit p)
+pattern x fit p = go (toBits binary64 x) (plain-fields binary64 x fit p)
   where
-    go : (b : ℕ) → Plain binary64 x b → Pattern x b
+    go : (b : ℕ) → PlainFields binary64 x b → Pattern x b
     go b is = record {
       bound = omega (arith, is .unsigned, not-all-ones);
       small = λ z. (sym (units-of-value binary64 x false (b * 1) (low-value z)), value-pos x b (2 ^ 1074) p (pow-pos 1074) (low-plus z));

@@ -61,7 +61,7 @@ radicand n d₀ e₀ d c parts fours =
     ∙ mul-assoc (d₀ * 2 ^ e₀) (2 ^ 1020) (2 ^ 54))
 
 -- the numbers that the program has: the digits and the exponent by fours
-pub record Found (x : Float) (d₀ e₀ d i : ℕ) : Type 0 where
+pub record FoundRoot (x : Float) (d₀ e₀ d i : ℕ) : Type 0 where
   pub parts : d₀ * 2 ^ e₀ ≡ unitsOf binary64 x
   pub few : e₀ < 2046
   pub fours : d * (2 ^ i * 2 ^ i) ≡ d₀ * 2 ^ (e₀ + 1020)
@@ -79,7 +79,7 @@ root-low d g low above =
     let lt : 2 ^ 53 < g + 1 = lt-of-square-lt (2 ^ 53) (g + 1) (omega arith) in
     omega arith
 
-sqrt-root : (x : Float) (d₀ e₀ d i g : ℕ) → T (positive x) → Found x d₀ e₀ d i → IsRoot (d * 2 ^ 54) g → Written (sqrt binary64 x) ((i + 1) * 2 ^ 52 + (g + 1) / 2)
+sqrt-root : (x : Float) (d₀ e₀ d i g : ℕ) → T (positive x) → FoundRoot x d₀ e₀ d i → IsRoot (d * 2 ^ 54) g → Written (sqrt binary64 x) ((i + 1) * 2 ^ 52 + (g + 1) / 2)
 sqrt-root x d₀ e₀ d i g p h root =
     subst (λ (r : Float). Written r ((i + 1) * 2 ^ 52 + (g + 1) / 2))
     (sym (sqrt-positive binary64 x p ∙ ap (roundRoot binary64) (radicand (unitsOf binary64 x) d₀ e₀ d (2 ^ i) (h .parts) (h .fours))))
@@ -91,7 +91,7 @@ sqrt-root x d₀ e₀ d i g p h root =
     halves o = omega arith
 
 -- the root, or the odd number just below it: half of either, rounded up, is the same
-pub sqrt-found : (x : Float) (d₀ e₀ d i r : ℕ) → T (positive x) → Found x d₀ e₀ d i → IsOddRoot (d * 2 ^ 54) r → Written (sqrt binary64 x) ((i + 1) * 2 ^ 52 + (r + 1) / 2)
+pub sqrt-found : (x : Float) (d₀ e₀ d i r : ℕ) → T (positive x) → FoundRoot x d₀ e₀ d i → IsOddRoot (d * 2 ^ 54) r → Written (sqrt binary64 x) ((i + 1) * 2 ^ 52 + (r + 1) / 2)
 sqrt-found x d₀ e₀ d i r p h odd =
     let root = root-above (d * 2 ^ 54) r odd in
     subst (λ (k : ℕ). Written (sqrt binary64 x) ((i + 1) * 2 ^ 52 + k)) (root .1 .1) (sqrt-root x d₀ e₀ d i (root .0) p h (root .1 .0))

@@ -11,7 +11,7 @@ use lib.Pow.{pow-pos, pow-add}
 use lib.Ieee.{Float, nan, inf, fin, binary32, up, down, lt, eq, le, fits, isNan, toBits, toUnsigned}
 use lib.Ieee.Positive.{positive, num, den, den-pos, between, le→cross, value→cross}
 use Rattle.ieee.proofs.Numbers.{exponent-lt}
-use Rattle.ieee.proofs.Fields.{digits, places, InFields, Plain, plain, positive-not-nan}
+use Rattle.ieee.proofs.Fields.{digits, places, InFields, PlainFields, plain-fields, positive-not-nan}
 
 -- ---- numbers: a / c is d * 2 ^ h units of 2 ^ -l
 module _ (a c d h l : ℕ) (p : 0 < c) (value : a * 2 ^ l ≡ d * 2 ^ h * c) where
@@ -92,8 +92,8 @@ shift x fit l h = go (toBits binary32 x) (toBits binary32 x / 2 ^ 23) (all .unsi
     is : Between x
     is = within x l h
 
-    all : Plain binary32 x (toBits binary32 x)
-    all = plain binary32 x fit (is .above)
+    all : PlainFields binary32 x (toBits binary32 x)
+    all = plain-fields binary32 x fit (is .above)
 
     cross : (y t : ℕ) → InFields binary32 x false y t → num x * 2 ^ 149 ≡ digits binary32 y t * 2 ^ places y * den x
     cross y t fields = value→cross x (digits binary32 y t * 2 ^ places y) (2 ^ 149) (fields .value)

@@ -72,8 +72,3 @@ crossed (fin false m e) nan p q = absurd q
 crossed (fin false m e) (inf t) p q = absurd q
 crossed (fin false m e) (fin true n d) p q = absurd (true≢false (q .0))
 crossed (fin false m e) (fin false n d) p q = record { less = refl; most = less-or-equal (m * up e * down d) (n * up d * down e) }
-
--- ---- a natural up to 2 ^ 24 goes through an f32 unchanged
-pub toUnsigned-ofInt : (n : ℕ) → n ≤ 2 ^ 24 → toUnsigned 32 (ofInt binary32 (pos n)) ≡ n
-unfolding inFloat
-toUnsigned-ofInt n h = unsigned-back binary32 32 n (le→leb n (2 ^ 24) h) (omega arith) .1

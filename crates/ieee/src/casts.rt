@@ -35,7 +35,7 @@ pub fn saturating_f64_to_u32(x: f64) -> u32
 // The whole part of an x from 1 to below 2 ^ 32. x is its 24 digits * 2 ^ (field - 150), so that with 32
 // digits a shift to the right is enough.
 fn whole_part(x: f32) -> u32
-    requires { ⌜ T (Ieee.le (fin false 1 (pos 0)) x) ⌝ ∗ ⌜ T (Ieee.lt x (fin false 1 (pos 32))) ⌝ }
+    requires { ⌜ T (Ieee.le (fin false 1 (pos 0)) x) × T (Ieee.lt x (fin false 1 (pos 32))) ⌝ }
     ensures { λ r. ⌜ r ≡ Ieee.toUnsigned 32 x ⌝ }
 {
     let bits = f32::to_bits(x) as u64;

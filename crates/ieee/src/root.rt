@@ -22,7 +22,7 @@ struct Parts {
 
 // A positive x in units of the smallest value, 2 ^ -1074. A subnormal has no leading digit.
 fn parts_of(x: f64) -> Parts
-    requires { ⌜ T (Ieee.lt (fin false 0 (pos 0)) x) ⌝ ∗ ⌜ T (Ieee.lt x (inf false)) ⌝ }
+    requires { ⌜ T (Ieee.lt (fin false 0 (pos 0)) x) × T (Ieee.lt x (inf false)) ⌝ }
     ensures { λ r. ⌜ (r .digits * 2 ^ r .exponent ≡ unitsOf binary64 x) × (0 < r .digits) × (r .digits < 2 ^ 53) × (r .exponent < 2046) ⌝ }
 {
     let bits = f64::to_bits(x);
@@ -172,7 +172,7 @@ fn odd_root(digits: u64, near: f64) -> u64
 // rounded up, is half of the odd number at or below it, rounded up. An estimate that is right goes out as
 // it stands: a processor that foresees the branch goes on with it before it is tested.
 fn positive_sqrt(x: f64) -> f64
-    requires { ⌜ T (Ieee.lt (fin false 0 (pos 0)) x) ⌝ ∗ ⌜ T (Ieee.lt x (inf false)) ⌝ }
+    requires { ⌜ T (Ieee.lt (fin false 0 (pos 0)) x) × T (Ieee.lt x (inf false)) ⌝ }
     ensures { λ r. ⌜ r ≡ sqrt binary64 x ⌝ }
 {
     let p = parts_of(x);

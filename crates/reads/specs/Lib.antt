@@ -1,6 +1,7 @@
 pub mod Reads
 pub mod ReadsLaws
 pub mod Bits
+pub mod Total
 pub mod BitsLaws
 pub mod OrderLaws
 pub mod MasksLaws

@@ -1,5 +1,6 @@
+-- `Records` has the definitions, `Fields` the places of a record's words, `RecordsLaws` how reading, replacing and clearing look on them, `Copies` the law of a
+-- loop that copies.
 pub mod Fields
--- `Records` has the definitions, `RecordsLaws` how reading, replacing and clearing look on them, `Copies` the law of a loop that copies.
 pub mod Records
 pub mod RecordsLaws
 pub mod Copies

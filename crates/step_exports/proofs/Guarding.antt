@@ -26,7 +26,7 @@ use Rattle.detector_kept.specs.declared.Spread.{Spread}
 use Rattle.detector_kept.specs.Kept.{Candidates, KeptAndRanked}
 use Rattle.detector_walks.specs.Walks.{Lent}
 use Rattle.detector_center.specs.Center.{findCenter}
-use Rattle.step_exports.specs.Steps.{Guarded, Decides, SmallTo, pointOf, spreadWords, sizeWords, boundaryWords, pixelWords, pointWords}
+use Rattle.step_exports.specs.Steps.{Guarded, Decides, SmallTo, pointByBits, spreadWords, sizeWords, boundaryWords, pixelWords, pointWords}
 
 module _ {fits answered refused : Type 0} where
   pub refuse : (fits → ⊥) → refused → Guarded fits answered refused
@@ -45,16 +45,16 @@ module _ {P : Type 0} where
   decides-false misfit = record { sound = λ e. absurd (true≢false (sym e)); complete = λ p. absurd (misfit p) }
 
   -- what a test that is passed tells
-  pub passed : {b : Bool} → Decides b P → not b ≡ false → P
-  passed d e = d .sound (not-false _ e)
+  pub passed-test : {b : Bool} → Decides b P → not b ≡ false → P
+  passed-test d e = d .sound (not-false _ e)
 
   -- and one that is failed
-  pub failed : {b : Bool} → Decides b P → not b ≡ true → P → ⊥
-  failed d e p = true≢false (sym (d .complete p) ∙ not-true _ e)
+  pub failed-test : {b : Bool} → Decides b P → not b ≡ true → P → ⊥
+  failed-test d e p = true≢false (sym (d .complete p) ∙ not-true _ e)
 
   -- an input that fails a test that it would pass if it did fit
   pub refuse-test : {fits answered refused : Type 0} {b : Bool} → Decides b P → not b ≡ true → (fits → P) → refused → Guarded fits answered refused
-  refuse-test d e part r = refuse (λ f. failed d e (part f)) r
+  refuse-test d e part r = refuse (λ f. failed-test d e (part f)) r
 
   -- a test that decides the rest of what is tested
   pub decides-rest : {Q : Type 0} {b : Bool} → Decides b Q → (Q → P) → (P → Q) → Decides b P
@@ -87,34 +87,35 @@ module _ (w h : ℕ) {shape : Shape} (is : shape ≡ shapeOf w h) {b : Bool} whe
   pub image-as : {words marks : List ℕ} → Decides b (Image shape words marks) → Decides b (Image (shapeOf w h) words marks)
   image-as d = rw is at d
 
-  pub lent-as : {words marks : List ℕ} {center : PointU} → Decides b (Lent shape words marks center sines) → Decides b (Lent (shapeOf w h) words marks center sines)
+  pub lent-as : {words marks : List ℕ} {center : PointU} → Decides b (Lent shape words marks center sines)
+      → Decides b (Lent (shapeOf w h) words marks center sines)
   lent-as d = rw is at d
 
   pub centered-passed-as : {center : PointU} → Decides b (Centered shape center) → not b ≡ false → Centered (shapeOf w h) center
-  centered-passed-as d = passed (centered-as d)
+  centered-passed-as d = passed-test (centered-as d)
 
   pub image-passed-as : {words marks : List ℕ} → Decides b (Image shape words marks) → not b ≡ false → Image (shapeOf w h) words marks
-  image-passed-as d = passed (image-as d)
+  image-passed-as d = passed-test (image-as d)
 
   pub lent-passed-as : {words marks : List ℕ} {center : PointU} → Decides b (Lent shape words marks center sines) → not b ≡ false
       → Lent (shapeOf w h) words marks center sines
-  lent-passed-as d = passed (lent-as d)
+  lent-passed-as d = passed-test (lent-as d)
 
 -- lent with the table that was made
 pub lent-passed : {b : Bool} {shape : Shape} {words marks : List ℕ} {center : PointU} {table : List Float} → Decides b (Lent shape words marks center sines)
     → not b ≡ false → table ≡ sines → Lent shape words marks center table
 lent-passed d e same =
-    let lent = passed d e in
+    let lent = passed-test d e in
     record { image = lent .image; inside = lent .inside; table-is = same }
 
 pub small-passed : {b : Bool} {n : ℕ} {words : List ℕ} → Decides b (SmallTo n words) → not b ≡ false → SmallTo n words
-small-passed = passed
+small-passed = passed-test
 
 pub cell-passed : {b : Bool} (cell : PointU) → Decides b (T (isCell cell)) → not b ≡ false → T (isCell cell)
-cell-passed cell = passed
+cell-passed cell = passed-test
 
 pub scale-passed-as : {b : Bool} {p : Float} (q : Float) → p ≡ q → Decides b (T (isScale p)) → not b ≡ false → T (isScale q)
-scale-passed-as q e d = passed (scale-of e d)
+scale-passed-as q e d = passed-test (scale-of e d)
 
 take-small : (n : ℕ) (words : List ℕ) → SmallTo n words → Small (take n words)
 take-small zero words small k = omega arith
@@ -165,7 +166,7 @@ pub guessed-words : (radius : ℕ) {s : Size} {a b l : Float} (m n k : ℕ) → 
     → s .width ∷ s .height ∷ [] ≡ sizeWords (guessedSize radius (ofBits binary64 m) (ofBits binary64 n) (ofBits binary64 k))
 guessed-words radius m n k e ea eb el = size-words (rw (ea, eb, el) at e)
 
-pub same-point : {a b : Float} (m n : ℕ) → a ≡ ofBits binary32 m → b ≡ ofBits binary32 n → record { x = a; y = b } ≡ pointOf m n
+pub same-point : {a b : Float} (m n : ℕ) → a ≡ ofBits binary32 m → b ≡ ofBits binary32 n → record { x = a; y = b } ≡ pointByBits m n
 same-point m n e f = ap₂ (λ (a b : Float). record { x = a; y = b }) e f
 
 -- a boundary, by a shape and a scale that are equal to those lent

@@ -2,8 +2,7 @@
 -- Assumes nothing.
 use Prim.Native.Nat.{ℕ, _≤_}
 use native.Mathlib.Omega.{arith}
-use mathlib.Core.Bool.{Bool, true, false}
-use mathlib.Core.Path.{_≡_, refl, sym, subst}
+use mathlib.Core.Path.{_≡_, refl}
 use mathlib.Core.List.{List, [], _∷_}
 use lib.Ieee.{binary32, toBits}
 use lib.ListN.{length}
@@ -18,25 +17,17 @@ use Rattle.rxing_result_point.specs.declared.PointU.{PointU}
 use Rattle.records.specs.Records.{capacityOf}
 use Rattle.detector_candidates.specs.Candidates.{concentricCircles, Room, Listed}
 use Rattle.detector_walks.specs.declared.Ends.{Ends}
-use Rattle.detector_walks.specs.Walks.{findWidthAtDegree, Sloped}
-use Rattle.detector_walks.specs.StepsLaws.{sloped-7, sloped-97}
+use Rattle.detector_walks.specs.Walks.{findWidthAtDegree}
 use Rattle.detector_center.specs.Center.{corrected}
 use Rattle.detector_circle.specs.declared.Circle.{Circle}
 use Rattle.detector_box.specs.Boxes.{symbolAt, withSymbol}
 use Rattle.step_exports.specs.Row.{blackFrom}
-use Rattle.step_exports.specs.Steps.{through, sampleNumber, walkedDegree, pixelWords, endsWords}
+use Rattle.step_exports.specs.Steps.{through, sampleNumber, pixelWords, endsWords}
 use Rattle.step_exports.proofs.Guarding.{pixel-words}
 
 -- a buffer with room for a capacity that is at most its own
 pub room : {capacity most : ℕ} {records : List ℕ} → most ≡ capacityOf (length records) → capacity ≤ most → Room capacity records 0
 room same fits = record { few = omega arith; most = omega arith; held = omega arith }
-
-pub sloped-walked : (steep : Bool) {degree : ℕ} → degree ≡ walkedDegree steep → Sloped degree
-sloped-walked steep e = subst Sloped (sym e) (go steep)
-  where
-    go : (steep : Bool) → Sloped (walkedDegree steep)
-    go true = sloped-97
-    go false = sloped-7
 
 pub ran-through : {A B : Type 0} (f : A → B) (p : Reads A) {words m₀ m₁ : List ℕ} {a : A} {r : B} → Ran p words m₀ a m₁ → r ≡ f a
     → Ran (through f p) words m₀ r m₁
@@ -59,12 +50,12 @@ module _ (w h : ℕ) {shape : Shape} (is : shape ≡ shapeOf w h) {words m₀ m�
       → Ran (through pixelWords (corrected (shapeOf w h) center)) words m₀ (a .x ∷ a .y ∷ []) m₁
   corrected-ran center ran = ran-through pixelWords _ (rw is at ran) (pixel-words refl)
 
-  pub walked-ran : (center : PointU) (steep : Bool) {degree : ℕ} {e : Ends} {a b c d : ℕ}
-      → degree ≡ walkedDegree steep → Ran (findWidthAtDegree shape center degree) words m₀ e m₁
+  pub walked-ran : (center : PointU) (degree : ℕ) {e : Ends} {a b c d : ℕ}
+      → Ran (findWidthAtDegree shape center degree) words m₀ e m₁
       → a ≡ toBits binary32 (e .left .x) → b ≡ toBits binary32 (e .left .y) → c ≡ toBits binary32 (e .right .x) → d ≡ toBits binary32 (e .right .y)
-      → Ran (through endsWords (findWidthAtDegree (shapeOf w h) center (walkedDegree steep))) words m₀ (a ∷ b ∷ c ∷ d ∷ []) m₁
+      → Ran (through endsWords (findWidthAtDegree (shapeOf w h) center degree)) words m₀ (a ∷ b ∷ c ∷ d ∷ []) m₁
   unfolding endsWords
-  walked-ran center steep same ran ea eb ec ed = ran-through endsWords _ (rw (is, same) at ran) (rw (ea, eb, ec, ed) refl)
+  walked-ran center degree ran ea eb ec ed = ran-through endsWords _ (rw is at ran) (rw (ea, eb, ec, ed) refl)
 
   pub boxed-ran : (fields : List ℕ) (circle : Circle) {r : List ℕ} → Ran (through (withSymbol fields) (symbolAt shape circle)) words m₀ r m₁
       → Ran (through (withSymbol fields) (symbolAt (shapeOf w h) circle)) words m₀ r m₁

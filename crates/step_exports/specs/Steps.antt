@@ -4,7 +4,7 @@ use mathlib.Core.Bool.{Bool, true, cond}
 use mathlib.Core.Path.{_≡_}
 use mathlib.Core.List.{List, [], _∷_}
 use lib.ListN.{getD}
-use lib.Ieee.{binary32, ofBits, toBits}
+use lib.Ieee.{binary32, binary64, ofBits, toBits}
 use Rattle.reads.specs.Reads.{Reads, done, _>>=_}
 use Rattle.reads.specs.Bits.{digit}
 use Rattle.bit_matrix.specs.declared.Sample.{Sample}
@@ -15,6 +15,7 @@ use Rattle.rxing_result_point.specs.declared.Point.{Point}
 use Rattle.rxing_result_point.specs.declared.PointU.{PointU}
 use Rattle.detector_boundary.specs.declared.Size.{Size}
 use Rattle.detector_boundary.specs.declared.Boundary.{Boundary}
+use Rattle.detector_boundary.specs.Boundary.{scaledBoundary}
 use Rattle.detector_circle.specs.declared.Circle.{Circle}
 use Rattle.detector_walks.specs.declared.Ends.{Ends}
 use Rattle.detector_kept.specs.declared.Spread.{Spread}
@@ -25,8 +26,8 @@ pub record Guarded (fits answered refused : Type 0) : Type 0 where
   pub unmet : (fits → ⊥) → refused
 
 -- what a step answers to an input that does not fit
-abbrev pub refusal : ℕ
-refusal = 4294967295
+abbrev pub refusedAnswer : ℕ
+refusedAnswer = 4294967295
 
 -- ---- tests
 
@@ -57,16 +58,16 @@ pixelIn numbers k = record { x = numberIn numbers k; y = numberIn numbers (k + 1
 abbrev pub circleIn : List ℕ → ℕ → Circle
 circleIn numbers k = record { center = pixelIn numbers k; radius = numberIn numbers (k + 2) }
 
+-- the boundary of a scale, which is given by its bit pattern, about the centre and with the radius that follow the width and height
+abbrev pub boundaryIn : List ℕ → ℕ → Boundary
+boundaryIn numbers scale = scaledBoundary (shapeIn numbers) (pixelIn numbers 2) (numberIn numbers 4) (ofBits binary64 scale)
+
 -- a point by the bit patterns of its coordinates; and by two numbers from k on
-abbrev pub pointOf : ℕ → ℕ → Point
-pointOf x y = record { x = ofBits binary32 x; y = ofBits binary32 y }
+abbrev pub pointByBits : ℕ → ℕ → Point
+pointByBits x y = record { x = ofBits binary32 x; y = ofBits binary32 y }
 
 abbrev pub pointIn : List ℕ → ℕ → Point
-pointIn numbers k = pointOf (numberIn numbers k) (numberIn numbers (k + 1))
-
--- the two degrees that are walked
-abbrev pub walkedDegree : Bool → ℕ
-walkedDegree steep = cond steep 97 7
+pointIn numbers k = pointByBits (numberIn numbers k) (numberIn numbers (k + 1))
 
 -- ---- results as words
 

@@ -12,11 +12,12 @@ ghost use Rattle.detector_walks.specs.Walks.{findWidthAtDegree, Lent};
 ghost use Rattle.detector_center.specs.Center.{corrected};
 ghost use Rattle.detector_turn.specs.Scales.{LentCircle};
 ghost use Rattle.detector_box.specs.Boxes.{symbolAt, withSymbol};
-ghost use Rattle.step_exports.specs.Steps.{Guarded, refusal, numberIn, shapeIn, pixelIn, circleIn};
-ghost use Rattle.step_exports.specs.Steps.{through, sampleNumber, walkedDegree, endsWords, pixelWords};
+ghost use Rattle.step_exports.specs.Steps.{Guarded, refusedAnswer, numberIn, shapeIn, pixelIn, circleIn};
+ghost use Rattle.step_exports.specs.Steps.{through, sampleNumber, endsWords, pixelWords};
 use crate::guards::REFUSED;
 use crate::guards::is_image;
 use crate::guards::is_lent;
+use crate::guards::is_radius;
 use crate::guards::shape_in;
 
 fn sample_number(sample: Sample) -> u32
@@ -35,7 +36,7 @@ pub extern "C" fn step_try_get_area(words: &[u64], marks: &mut [u64], numbers: &
         (Image (shapeIn (now (numbers .entry))) (now (words .entry)) (now (marks .entry)))
         (Ran (through sampleNumber (tryGetArea (shapeIn (now (numbers .entry))) (numberIn (now (numbers .entry)) 2) (numberIn (now (numbers .entry)) 3)))
         (now (words .entry)) (now (marks .entry)) r (now (marks .exit)))
-        ((r ≡ refusal) × (now (marks .exit) ≡ now (marks .entry))) ⌝ }
+        ((r ≡ refusedAnswer) × (now (marks .exit) ≡ now (marks .entry))) ⌝ }
 {
     let shape = shape_in(numbers);
     if !is_image(words, marks, shape) {
@@ -45,27 +46,20 @@ pub extern "C" fn step_try_get_area(words: &[u64], marks: &mut [u64], numbers: &
     sample_number(sample)
 }
 
-// One of the two degrees that are walked.
-fn walked_degree(steep: bool) -> u32
-    ensures { λ r. ⌜ r ≡ walkedDegree steep ⌝ }
-{
-    if steep { 97 } else { 7 }
-}
-
-// The ends of the walks to the left and to the right at 7 degrees, or at 97. The numbers: width, height, the centre's column and row.
+// The ends of the walks to the left and to the right at a degree. The numbers: width, height, the centre's column and row.
 #[no_mangle]
 pub extern "C" fn step_find_width_at_degree(
     words: &[u64],
     marks: &mut [u64],
     numbers: &[u32; 4],
-    steep: bool,
+    degree: u32,
     out: &mut [u32; 4],
 ) -> u32
     ensures { λ r. ⌜ Guarded
         (Lent (shapeIn (now (numbers .entry))) (now (words .entry)) (now (marks .entry)) (pixelIn (now (numbers .entry)) 2) sines)
-        ((r ≡ 0) × Ran (through endsWords (findWidthAtDegree (shapeIn (now (numbers .entry))) (pixelIn (now (numbers .entry)) 2) (walkedDegree steep)))
+        ((r ≡ 0) × Ran (through endsWords (findWidthAtDegree (shapeIn (now (numbers .entry))) (pixelIn (now (numbers .entry)) 2) degree))
         (now (words .entry)) (now (marks .entry)) (now (out .exit)) (now (marks .exit)))
-        ((r ≡ refusal) × (now (marks .exit) ≡ now (marks .entry)) × (now (out .exit) ≡ now (out .entry))) ⌝ }
+        ((r ≡ refusedAnswer) × (now (marks .exit) ≡ now (marks .entry)) × (now (out .exit) ≡ now (out .entry))) ⌝ }
 {
     let shape = shape_in(numbers);
     let center = PointU {
@@ -76,7 +70,6 @@ pub extern "C" fn step_find_width_at_degree(
         return REFUSED;
     }
     let table = sines::table();
-    let degree = walked_degree(steep);
     let ends = detector_walks::find_width_at_degree(words, marks, shape, center, &table, degree);
     let left = ends.left;
     let right = ends.right;
@@ -101,7 +94,7 @@ pub extern "C" fn step_corrected_center(
         (Lent (shapeIn (now (numbers .entry))) (now (words .entry)) (now (marks .entry)) (pixelIn (now (numbers .entry)) 2) sines)
         ((r ≡ 0) × Ran (through pixelWords (corrected (shapeIn (now (numbers .entry))) (pixelIn (now (numbers .entry)) 2)))
         (now (words .entry)) (now (marks .entry)) (now (out .exit)) (now (marks .exit)))
-        ((r ≡ refusal) × (now (marks .exit) ≡ now (marks .entry)) × (now (out .exit) ≡ now (out .entry))) ⌝ }
+        ((r ≡ refusedAnswer) × (now (marks .exit) ≡ now (marks .entry)) × (now (out .exit) ≡ now (out .entry))) ⌝ }
 {
     let shape = shape_in(numbers);
     let center = PointU {
@@ -147,7 +140,7 @@ pub extern "C" fn step_box_symbol(
         (LentCircle (shapeIn (now (numbers .entry))) (now (words .entry)) (now (marks .entry)) (circleIn (now (numbers .entry)) 2) sines)
         ((r ≡ 0) × Ran (through (withSymbol (now (fields .entry))) (symbolAt (shapeIn (now (numbers .entry))) (circleIn (now (numbers .entry)) 2)))
         (now (words .entry)) (now (marks .entry)) (now (fields .exit)) (now (marks .exit)))
-        ((r ≡ refusal) × (now (marks .exit) ≡ now (marks .entry)) × (now (fields .exit) ≡ now (fields .entry))) ⌝ }
+        ((r ≡ refusedAnswer) × (now (marks .exit) ≡ now (marks .entry)) × (now (fields .exit) ≡ now (fields .entry))) ⌝ }
 {
     let shape = shape_in(numbers);
     let center = PointU {
@@ -158,10 +151,7 @@ pub extern "C" fn step_box_symbol(
     if !is_lent(words, marks, shape, center) {
         return REFUSED;
     }
-    if radius < 6 {
-        return REFUSED;
-    }
-    if radius >= 2048 {
+    if !is_radius(radius) {
         return REFUSED;
     }
     let before = *fields;

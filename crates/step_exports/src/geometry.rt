@@ -7,13 +7,14 @@ ghost use lib.Dec.{T};
 ghost use lib.Ieee.{binary64, ofBits};
 ghost use Rattle.rxing_result_point.specs.Points.{getPoint};
 ghost use Rattle.detector_boundary.specs.Size.{guessedSize, isScale};
-ghost use Rattle.detector_boundary.specs.Boundary.{Centered, scaledBoundary};
+ghost use Rattle.detector_boundary.specs.Boundary.{Centered};
 ghost use Rattle.detector_points.specs.Orientation.{isCell, adjustedPoint};
 ghost use Rattle.detector_center.specs.Center.{findCenter};
-ghost use Rattle.step_exports.specs.Steps.{Guarded, Decides, refusal, numberIn, shapeIn, pixelIn, pointIn, pointOf};
+ghost use Rattle.step_exports.specs.Steps.{Guarded, Decides, refusedAnswer, numberIn, shapeIn, pixelIn, boundaryIn, pointIn, pointByBits};
 ghost use Rattle.step_exports.specs.Steps.{sizeWords, boundaryWords, pixelWords, pointWords};
 use crate::guards::REFUSED;
 use crate::guards::is_centered;
+use crate::guards::is_radius;
 use crate::guards::is_scale;
 use crate::guards::shape_in;
 
@@ -28,8 +29,9 @@ pub extern "C" fn step_guess_barcode_size_general(
 ) -> u32
     ensures { λ r. ⌜ Guarded
         (radius < 65536)
-        ((r ≡ 0) × (now (out .exit) ≡ sizeWords (guessedSize radius (ofBits binary64 «height_adjust») (ofBits binary64 «circle_area») (ofBits binary64 «height_final_adjust»))))
-        ((r ≡ refusal) × (now (out .exit) ≡ now (out .entry))) ⌝ }
+        ((r ≡ 0) × (now (out .exit) ≡ sizeWords (guessedSize radius (ofBits binary64 «height_adjust») (ofBits binary64 «circle_area»)
+        (ofBits binary64 «height_final_adjust»))))
+        ((r ≡ refusedAnswer) × (now (out .exit) ≡ now (out .entry))) ⌝ }
 {
     if radius >= 65536 {
         return REFUSED;
@@ -46,10 +48,10 @@ pub extern "C" fn step_guess_barcode_size_general(
 #[no_mangle]
 pub extern "C" fn step_scaled_boundary(numbers: &[u32; 5], scale: u64, out: &mut [u32; 4]) -> u32
     ensures { λ r. ⌜ Guarded
-        (Centered (shapeIn (now (numbers .entry))) (pixelIn (now (numbers .entry)) 2) × (numberIn (now (numbers .entry)) 4 < 2048) × T (isScale (ofBits binary64 scale)))
-        ((r ≡ 0) × (now (out .exit) ≡ boundaryWords (scaledBoundary (shapeIn (now (numbers .entry))) (pixelIn (now (numbers .entry)) 2)
-        (numberIn (now (numbers .entry)) 4) (ofBits binary64 scale))))
-        ((r ≡ refusal) × (now (out .exit) ≡ now (out .entry))) ⌝ }
+        (Centered (shapeIn (now (numbers .entry))) (pixelIn (now (numbers .entry)) 2) × (numberIn (now (numbers .entry)) 4 < 2048)
+        × T (isScale (ofBits binary64 scale)))
+        ((r ≡ 0) × (now (out .exit) ≡ boundaryWords (boundaryIn (now (numbers .entry)) scale)))
+        ((r ≡ refusedAnswer) × (now (out .exit) ≡ now (out .entry))) ⌝ }
 {
     let shape = shape_in(numbers);
     let center = PointU {
@@ -88,16 +90,15 @@ pub extern "C" fn step_adjust_point_alternate(
 ) -> u32
     ensures { λ r. ⌜ Guarded
         (Centered (shapeIn (now (numbers .entry))) (pixelIn (now (numbers .entry)) 2)
-        × (6 ≤ numberIn (now (numbers .entry)) 4) × (numberIn (now (numbers .entry)) 4 < 2048) × T (isScale (ofBits binary64 scale)) × T (isCell (pixelIn (now (numbers .entry)) 5)))
-        ((r ≡ 0) × (now (out .exit) ≡ pixelWords (adjustedPoint (scaledBoundary (shapeIn (now (numbers .entry))) (pixelIn (now (numbers .entry)) 2)
-        (numberIn (now (numbers .entry)) 4) (ofBits binary64 scale)) (pixelIn (now (numbers .entry)) 5))))
-        ((r ≡ refusal) × (now (out .exit) ≡ now (out .entry))) ⌝ }
+        × ((6 ≤ numberIn (now (numbers .entry)) 4) × (numberIn (now (numbers .entry)) 4 < 2048)) × T (isScale (ofBits binary64 scale))
+        × T (isCell (pixelIn (now (numbers .entry)) 5)))
+        ((r ≡ 0) × (now (out .exit) ≡ pixelWords (adjustedPoint (boundaryIn (now (numbers .entry)) scale) (pixelIn (now (numbers .entry)) 5))))
+        ((r ≡ refusedAnswer) × (now (out .exit) ≡ now (out .entry))) ⌝ }
 {
     let shape = shape_in(numbers);
-    let center = PointU {
-        x: numbers[2],
-        y: numbers[3],
-    };
+    let x = numbers[2];
+    let y = numbers[3];
+    let center = PointU { x, y };
     let radius = numbers[4];
     let cell = PointU {
         x: numbers[5],
@@ -107,10 +108,7 @@ pub extern "C" fn step_adjust_point_alternate(
     if !is_centered(shape, center) {
         return REFUSED;
     }
-    if radius < 6 {
-        return REFUSED;
-    }
-    if radius >= 2048 {
+    if !is_radius(radius) {
         return REFUSED;
     }
     if !is_scale(percent) {
@@ -128,7 +126,8 @@ pub extern "C" fn step_adjust_point_alternate(
 // A point turned about a centre by whole degrees. The numbers: column and row of the centre, then of the point, and the degree.
 #[no_mangle]
 pub extern "C" fn step_get_point(numbers: &[u32; 5], out: &mut [u32; 2])
-    ensures { λ _. ⌜ now (out .exit) ≡ pointWords (getPoint (pixelIn (now (numbers .entry)) 0) (pixelIn (now (numbers .entry)) 2) (numberIn (now (numbers .entry)) 4)) ⌝ }
+    ensures { λ _. ⌜ now (out .exit) ≡
+        pointWords (getPoint (pixelIn (now (numbers .entry)) 0) (pixelIn (now (numbers .entry)) 2) (numberIn (now (numbers .entry)) 4)) ⌝ }
 {
     let center = PointU {
         x: numbers[0],
@@ -145,7 +144,7 @@ pub extern "C" fn step_get_point(numbers: &[u32; 5], out: &mut [u32; 2])
 
 // A point by the bits of its coordinates.
 fn point_of(x: u32, y: u32) -> Point
-    ensures { λ r. ⌜ r ≡ pointOf x y ⌝ }
+    ensures { λ r. ⌜ r ≡ pointByBits x y ⌝ }
 {
     Point {
         x: ieee::f32_of_bits(x),
@@ -156,7 +155,8 @@ fn point_of(x: u32, y: u32) -> Point
 // The centre of the circle through three points. The numbers: the bits of each point's x and y.
 #[no_mangle]
 pub extern "C" fn step_find_center(numbers: &[u32; 6], out: &mut [u32; 2])
-    ensures { λ _. ⌜ now (out .exit) ≡ pointWords (findCenter (pointIn (now (numbers .entry)) 0) (pointIn (now (numbers .entry)) 2) (pointIn (now (numbers .entry)) 4)) ⌝ }
+    ensures { λ _. ⌜ now (out .exit) ≡
+        pointWords (findCenter (pointIn (now (numbers .entry)) 0) (pointIn (now (numbers .entry)) 2) (pointIn (now (numbers .entry)) 4)) ⌝ }
 {
     let first = point_of(numbers[0], numbers[1]);
     let second = point_of(numbers[2], numbers[3]);

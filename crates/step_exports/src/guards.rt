@@ -2,7 +2,7 @@
 use bit_matrix::Shape;
 use rxing_result_point::PointU;
 ghost use mathlib.Core.Path.{_≡_};
-ghost use Prim.Native.Nat.{_≤_};
+ghost use Prim.Native.Nat.{_≤_, _<_};
 ghost use lib.Dec.{T};
 ghost use lib.ListN.{length};
 ghost use Rattle.bit_matrix.specs.Shape.{rowWords, Limits, Image, Inside};
@@ -91,6 +91,16 @@ pub fn is_lent(words: &[u64], marks: &[u64], shape: Shape, center: PointU) -> bo
         return false;
     }
     is_inside(shape, center)
+}
+
+// Whether a circle may have that radius.
+pub fn is_radius(radius: u32) -> bool
+    ensures { λ r. ⌜ Decides r ((6 ≤ radius) × (radius < 2048)) ⌝ }
+{
+    if radius < 6 {
+        return false;
+    }
+    radius < 2048
 }
 
 // Whether a symbol's boundary may be asked for that scale.

@@ -5,7 +5,7 @@ ghost use lib.ListN.{length};
 ghost use Rattle.records.specs.Records.{capacityOf, rows};
 ghost use Rattle.detector_kept.specs.Spread.{spread};
 ghost use Rattle.detector_kept.specs.Kept.{KeptAndRanked};
-ghost use Rattle.step_exports.specs.Steps.{Guarded, SmallTo, refusal, spreadWords};
+ghost use Rattle.step_exports.specs.Steps.{Guarded, SmallTo, refusedAnswer, spreadWords};
 use crate::guards::REFUSED;
 use crate::guards::REFUSED_COUNT;
 use crate::guards::all_small;
@@ -20,7 +20,7 @@ pub extern "C" fn step_calculate_center_point_std_dev(
     ensures { λ r. ⌜ Guarded
         ((found ≤ capacityOf (length (now (records .entry)))) × SmallTo (40 * found) (now (records .entry)))
         ((r ≡ 0) × (now (out .exit) ≡ spreadWords (spread (rows found (now (records .entry))))))
-        ((r ≡ refusal) × (now (out .exit) ≡ now (out .entry))) ⌝ }
+        ((r ≡ refusedAnswer) × (now (out .exit) ≡ now (out .entry))) ⌝ }
 {
     let count = found as usize;
     if count > records::capacity_of(records.len()) {
@@ -40,7 +40,7 @@ pub extern "C" fn step_keep_and_rank(records: &mut [u32], found: u32) -> usize
     ensures { λ r. ⌜ Guarded
         ((found ≤ capacityOf (length (now (records .entry)))) × SmallTo (40 * found) (now (records .entry)))
         (KeptAndRanked found (capacityOf (length (now (records .entry)))) (now (records .entry)) r (now (records .exit)))
-        ((r ≡ refusal) × (now (records .exit) ≡ now (records .entry))) ⌝ }
+        ((r ≡ refusedAnswer) × (now (records .exit) ≡ now (records .entry))) ⌝ }
 {
     let count = found as usize;
     let capacity = records::capacity_of(records.len());

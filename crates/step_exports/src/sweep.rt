@@ -5,7 +5,7 @@ ghost use Rattle.reads.specs.Runs.{Ran};
 ghost use Rattle.bit_matrix.specs.Shape.{Image};
 ghost use Rattle.detector_candidates.specs.Candidates.{concentricCircles, Room, Listed};
 ghost use Rattle.step_exports.specs.Row.{blackFrom};
-ghost use Rattle.step_exports.specs.Steps.{Guarded, refusal, numberIn, shapeIn};
+ghost use Rattle.step_exports.specs.Steps.{Guarded, refusedAnswer, numberIn, shapeIn};
 use crate::guards::REFUSED;
 use crate::guards::REFUSED_COUNT;
 use crate::guards::is_image;
@@ -33,7 +33,7 @@ pub extern "C" fn step_count_row(words: &[u64], marks: &mut [u64], numbers: &[u3
         (Image (shapeIn (now (numbers .entry))) (now (words .entry)) (now (marks .entry)))
         (Ran (blackFrom (shapeIn (now (numbers .entry))) (numberIn (now (numbers .entry)) 2) (numberIn (now (numbers .entry)) 3) 0 0)
         (now (words .entry)) (now (marks .entry)) r (now (marks .exit)))
-        ((r ≡ refusal) × (now (marks .exit) ≡ now (marks .entry))) ⌝ }
+        ((r ≡ refusedAnswer) × (now (marks .exit) ≡ now (marks .entry))) ⌝ }
 {
     let shape = shape_in(numbers);
     if !is_image(words, marks, shape) {
@@ -54,7 +54,7 @@ pub extern "C" fn step_find_concentric_circles(
         (Image (shapeIn (now (numbers .entry))) (now (words .entry)) (now (marks .entry)) × Room (numberIn (now (numbers .entry)) 2) (now (records .entry)) 0)
         (Listed (concentricCircles (shapeIn (now (numbers .entry))) (numberIn (now (numbers .entry)) 2)) (numberIn (now (numbers .entry)) 2)
         (now (words .entry)) (now (marks .entry)) (now (records .entry)) r (now (marks .exit)) (now (records .exit)))
-        ((r ≡ refusal) × (now (marks .exit) ≡ now (marks .entry)) × (now (records .exit) ≡ now (records .entry))) ⌝ }
+        ((r ≡ refusedAnswer) × (now (marks .exit) ≡ now (marks .entry)) × (now (records .exit) ≡ now (records .entry))) ⌝ }
 {
     let shape = shape_in(numbers);
     if !is_image(words, marks, shape) {

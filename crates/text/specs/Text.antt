@@ -4,13 +4,14 @@ use Prim.Native.Char.{code}
 use Prim.Native.String as String
 use Prim.Native.String.{String}
 use mathlib.Core.Bool.{cond}
-use mathlib.Core.List.{List, [], _∷_, _++_, map}
+use mathlib.Core.List.{List, [], _∷_, _++_, map, flatMap}
 use mathlib.Core.Path.{_≡_}
 use lib.Dec.{ltb}
 use lib.Ieee.{binary32, ofBits, toUnsigned}
 use lib.ListN.{length, getD, take, drop}
 use Rattle.io.specs.Digits.{digits}
 use Rattle.records.specs.Fields as field
+use Rattle.records.specs.Records.{rows}
 
 -- the codes of a text
 abbrev pub ascii : String → List ℕ
@@ -58,8 +59,8 @@ abbrev pub degreesOf : ℕ → ℕ
 degreesOf bits = toUnsigned 32 (ofBits binary32 bits)
 
 -- the four corners of a record, x then y
-abbrev pub cornersOf : List ℕ → List ℕ
-cornersOf fields = take 8 (drop field.corners fields)
+abbrev pub cornerFields : List ℕ → List ℕ
+cornerFields fields = take 8 (drop field.corners fields)
 
 -- what the line of a record has in decimal: x, y, radius, outcome, scale, rotation and class
 abbrev pub decimalFields : List ℕ → List ℕ
@@ -69,10 +70,18 @@ decimalFields fields =
 
 -- and in hexadecimal: the variance and the corners
 abbrev pub hexFields : List ℕ → List ℕ
-hexFields fields = getD fields field.variance 0 ∷ cornersOf fields
+hexFields fields = getD fields field.variance 0 ∷ cornerFields fields
 
 unfoldable pub recordLine : List ℕ → List ℕ
 recordLine fields = parted (map decimalOf (decimalFields fields) ++ map hexOf (hexFields fields)) ++ ascii "\n"
+
+-- the lines of the first n records of a buffer
+unfoldable pub recordLines : ℕ → List ℕ → List ℕ
+recordLines n records = flatMap recordLine (rows n records)
+
+-- what a run prints: the line of its report, and one for each kept record in its order
+unfoldable pub runText : (answer found kept marked : ℕ) → List ℕ → List ℕ
+runText answer found kept marked records = reportLine answer found kept marked ++ recordLines kept records
 
 -- the text is put at `at`: what stands before it stays, and `next` is the place after it. The last two fields
 -- follow from the others, and stand there so that the proof that Rattle makes of `&buf[..next]` finds them.

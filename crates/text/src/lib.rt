@@ -1,9 +1,9 @@
 // The lines that the program prints, as text in a lent buffer. Each function puts its text at a place and answers the place after it.
 ghost use mathlib.Core.Path.{_≡_};
 ghost use mathlib.Core.List.{[], _∷_, _++_, map};
-ghost use Prim.Native.Nat.{_+_, _≤_};
+ghost use Prim.Native.Nat.{_+_, _*_, _≤_};
 ghost use lib.ListN.{length};
-ghost use Rattle.text.specs.Text.{ascii, following, parted, degreesOf, decimalOf, hexOf, cornersOf, reportLine, recordLine, Puts};
+ghost use Rattle.text.specs.Text.{ascii, following, parted, degreesOf, decimalOf, hexOf, cornerFields, reportLine, recordLine, recordLines, runText, Puts};
 
 // The bytes of `piece`.
 fn put(buf: &mut [u8], at: usize, piece: &[u8]) -> usize
@@ -96,7 +96,7 @@ fn put_turn(buf: &mut [u8], at: usize, outcome: u32, scale: u32, rotation: u32, 
 // The corners of a record, each word after a space.
 fn put_corners(buf: &mut [u8], at: usize, fields: [u32; 40]) -> usize
     requires { ⌜ at + 72 ≤ length (now buf) ⌝ }
-    ensures { λ r. ⌜ Puts (following (map hexOf (cornersOf fields))) at (now (buf .entry)) r (now (buf .exit)) × (r ≡ at + 72) ⌝ }
+    ensures { λ r. ⌜ Puts (following (map hexOf (cornerFields fields))) at (now (buf .entry)) r (now (buf .exit)) × (r ≡ at + 72) ⌝ }
 {
     let mut next = at;
     let mut k = 0;
@@ -130,4 +130,34 @@ pub fn put_record(buf: &mut [u8], at: usize, fields: [u32; 40]) -> usize
     let after_variance = put_next_hex(buf, after_turn, fields[records::VARIANCE]);
     let after_corners = put_corners(buf, after_variance, fields);
     put(buf, after_corners, b"\n")
+}
+
+// The lines of the first `kept` records, in their order.
+fn put_records(buf: &mut [u8], at: usize, records: &[u32], kept: usize) -> usize
+    requires { ⌜ (at + 200 * kept ≤ length (now buf)) × (40 * kept ≤ length (now records)) ⌝ }
+    ensures { λ r. ⌜ Puts (recordLines kept (now (records .entry))) at (now (buf .entry)) r (now (buf .exit)) ⌝ }
+{
+    let mut next = at;
+    let mut i = 0;
+    while i < kept {
+        next = put_record(buf, next, records::load(records, i));
+        i += 1;
+    }
+    next
+}
+
+// All that a run prints: the line of its report, then those of the kept records.
+pub fn put_run(
+    buf: &mut [u8],
+    answer: u32,
+    found: u32,
+    kept: u32,
+    marked: u32,
+    records: &[u32],
+) -> usize
+    requires { ⌜ (80 + 200 * kept ≤ length (now buf)) × (40 * kept ≤ length (now records)) ⌝ }
+    ensures { λ r. ⌜ Puts (runText answer found kept marked (now (records .entry))) 0 (now (buf .entry)) r (now (buf .exit)) ⌝ }
+{
+    let after_report = put_report(buf, 0, answer, found, kept, marked);
+    put_records(buf, after_report, records, kept as usize)
 }

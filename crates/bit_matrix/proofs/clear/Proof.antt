@@ -24,8 +24,8 @@ mul-marks c = search needs
 slice-write-marks : tie.Need-slice-write-marks Inv-loop μ-loop
 slice-write-marks c = search needs
 
-add-i : tie.Need-add-i Inv-loop μ-loop
-add-i c = search needs
+add-cleared : tie.Need-add-cleared Inv-loop μ-loop
+add-cleared c = search needs
 
 loop-less : tie.Need-loop-less Inv-loop μ-loop
 loop-less c = search needs
@@ -33,7 +33,7 @@ loop-less c = search needs
 loop-again : tie.Need-loop-again Inv-loop μ-loop
 loop-again c =
     let marks = c .before .before .args .marks .now in
-    let i = c .before .loop .i in
+    let i = c .before .loop .cleared in
     (omega arith, ap (λ (l : List ℕ). set l i 0) (c .before .loop .inv .1) ∙ fill-more i 0 marks (omega arith), simp length-set (c .before .loop .inv .2))
 
 same-length : tie.Need-same-length Inv-loop μ-loop
@@ -42,7 +42,7 @@ same-length c = search needs
 returns : tie.Need-returns Inv-loop μ-loop
 returns c =
     let marks = c .before .before .args .marks .now in
-    let i = c .before .loop .i in
+    let i = c .before .loop .cleared in
     let all : i ≡ length marks = omega arith in
     c .before .loop .inv .1 ∙ ap (λ (l : List ℕ). replicate i 0 ++ l) (drop-of-length-le marks {i = i} (omega arith))
     ∙ append-nil (replicate i 0) ∙ ap (λ (n : ℕ). replicate n 0) all
@@ -56,7 +56,7 @@ clear-spec =
     loop-holds
     mul-marks
     slice-write-marks
-    add-i
+    add-cleared
     loop-less
     loop-again
     same-length

@@ -10,7 +10,7 @@ use Rattle.bit_matrix.specs.declared.Shape.{Shape}
 use Rattle.bit_matrix.specs.Shape.{Image, Inside}
 use Rattle.bit_matrix.specs.Pixels.{offset}
 use Rattle.bit_matrix.specs.PixelsLaws.{inside-stored}
-use Rattle.bit_matrix.specs.AreaWords.{Counted, nineOf, InWords}
+use Rattle.bit_matrix.specs.AreaWords.{CountedBits, nineOf, InWords}
 use Rattle.bit_matrix.proofs.AreaLaws.{area-outside}
 use Rattle.bit_matrix.proofs.AreaWordsLaws.{few-nine, area-in-words}
 use Rattle.bit_matrix.proofs.try_get_area.Statement.{statement}
@@ -22,7 +22,7 @@ last-row {shape} {x} {y} image inside =
     let below : Inside shape (x - 1) (y + 1) = record { column = omega (arith, inside .right); row = inside .bottom } in
     rw (same, image .stored) (inside-stored (image .limits) (x - 1) (y + 1) below)
 
-twice-fits : {words marks after : List ℕ} {n : ℕ} (shape : Shape) (x y : ℕ) → Counted words marks (nineOf shape x y) n after → 2 * n < 2 ^ 64
+twice-fits : {words marks after : List ℕ} {n : ℕ} (shape : Shape) (x y : ℕ) → CountedBits words marks (nineOf shape x y) n after → 2 * n < 2 ^ 64
 twice-fits shape x y counted = omega (arith, few-nine shape x y counted)
 
 returns : tie.Need-returns

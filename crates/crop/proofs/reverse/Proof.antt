@@ -12,7 +12,7 @@ use Rattle.crop.specs.Below.{anyBelow, number}
 use Rattle.crop.specs.AnyLaws.{none-holds}
 use Rattle.crop.specs.NumberLaws.{number-same, number-bits}
 use Rattle.crop.specs.Bytes.{mirrored}
-use Rattle.crop.proofs.Swaps.{swap, origin, unfit, test-swap}
+use Rattle.crop.proofs.Swaps.{swap, swap-origin, unfit, test-swap}
 use Rattle.crop.proofs.reverse.Statement.{statement}
 use Rattle.crop.proofs.reverse.Tie as tie
 
@@ -40,13 +40,13 @@ fit₁ = refl
 
 -- the places on the way back from bit k, which stay in the word, and the last of them
 abbrev third : ℕ → ℕ
-third k = origin 1 mask₁ k
+third k = swap-origin 1 mask₁ k
 
 abbrev second : ℕ → ℕ
-second k = origin 2 mask₂ (third k)
+second k = swap-origin 2 mask₂ (third k)
 
 abbrev first : ℕ → ℕ
-first k = origin 4 mask₄ (second k)
+first k = swap-origin 4 mask₄ (second k)
 
 third-in : anyBelow (λ k. not (ltb (third k) 64)) 64 ≡ false
 unfolding anyBelow testBit

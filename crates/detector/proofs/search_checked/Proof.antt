@@ -1,7 +1,7 @@
 -- `detector::search_checked` meets its contract: one lemma for each return. Assumes nothing.
 use borrow.Author.Needs.{needs}
 use Rattle.crop.specs.CropLaws.{checked-rows}
-use Rattle.detector.specs.DetectorLaws.{file-refused, file-accepted, file-size, file-image, file-room, file-searched}
+use Rattle.detector.specs.DetectorLaws.{file-refused, checked-accepted, file-size, file-image, file-room, file-searched}
 use Rattle.detector.proofs.search_checked.Statement.{statement}
 use Rattle.detector.proofs.search_checked.Tie as tie
 
@@ -15,7 +15,7 @@ returns : tie.Need-returns
 returns c = search file-refused
 
 unpack-rows-requires : tie.Need-unpack-rows-requires
-unpack-rows-requires c κs = search (file-accepted, file-size)
+unpack-rows-requires c κs = search (checked-accepted, file-size)
 
 search-accepted-requires : tie.Need-search-accepted-requires
 search-accepted-requires c κs = search (file-image, file-room)

@@ -39,11 +39,11 @@ boxed : {words marks after : List ℕ} (shape : Shape) (circle : Circle) {b : Bo
 unfolding symbolAt
 boxed shape circle e ran f g = ran-bind _ ran (ran-is (rw (f, g, e)))
 
-plain-boundary-requires : tie.Need-plain-boundary-requires
-plain-boundary-requires c κs = search (needs, centered-of)
-
 try-scales-requires : tie.Need-try-scales-requires
 try-scales-requires c κs = search needs
+
+plain-boundary-requires : tie.Need-plain-boundary-requires
+plain-boundary-requires c κs = search (needs, centered-of)
 
 corners-of-requires : tie.Need-corners-of-requires
 corners-of-requires c κs = search (needs, placed)
@@ -61,8 +61,8 @@ pub box-symbol-spec : {M : Type 1} → statement M
 box-symbol-spec =
     tie.close
     (tie.spec
-    plain-boundary-requires
     try-scales-requires
+    plain-boundary-requires
     corners-of-requires
     class-of-requires
     same-length

@@ -1,4 +1,4 @@
--- `detector_center::corrected_center` meets its contract: the walks' runs, one after the other. The sines of 7 and 97 degrees are not 0. Assumes nothing.
+-- `detector_center::corrected_center` meets its contract: the walks' runs, one after the other. Assumes nothing.
 use Prim.Native.Nat.{ℕ}
 use mathlib.Core.List.{List}
 use mathlib.Core.Path.{_≡_, ap, _∙_}
@@ -11,7 +11,6 @@ use Rattle.rxing_result_point.specs.declared.PointU.{PointU}
 use Rattle.rxing_result_point.specs.Points.{rounded}
 use Rattle.detector_walks.specs.declared.Ends.{Ends}
 use Rattle.detector_walks.specs.Walks.{findWidthAtDegree}
-use Rattle.detector_walks.specs.StepsLaws.{sloped-7, sloped-97}
 use Rattle.detector_walks.specs.WalksLaws.{lent-on}
 use Rattle.detector_center.specs.Center.{findCenter, corrected}
 use Rattle.detector_center.proofs.corrected_center.Statement.{statement}
@@ -25,10 +24,10 @@ unfolding corrected
 centered shape center one two e f = ran-bind _ one (ran-bind _ two (ran-is (e ∙ ap rounded f)))
 
 find-width-at-degree-requires : tie.Need-find-width-at-degree-requires
-find-width-at-degree-requires c κs = search (needs, sloped-7, sloped-97)
+find-width-at-degree-requires c κs = search needs
 
 find-width-at-degree-requires-2 : tie.Need-find-width-at-degree-requires-2
-find-width-at-degree-requires-2 c κs = search (needs, lent-on, sloped-7, sloped-97)
+find-width-at-degree-requires-2 c κs = search (needs, lent-on)
 
 find-center-requires : tie.Need-find-center-requires
 find-center-requires c κs = search needs

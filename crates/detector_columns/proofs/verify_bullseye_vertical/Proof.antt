@@ -5,6 +5,12 @@ use Rattle.detector_columns.specs.Columns.{verifyBullseyeVerticalBy}
 use Rattle.detector_columns.proofs.verify_bullseye_vertical.Statement.{statement}
 use Rattle.detector_columns.proofs.verify_bullseye_vertical.Tie as tie
 
+add-next : tie.Need-add-next
+add-next c = search needs
+
+sub-before : tie.Need-sub-before
+sub-before c = search needs
+
 try-column-requires : tie.Need-try-column-requires
 try-column-requires c κs = search needs
 
@@ -15,9 +21,6 @@ returns : tie.Need-returns
 unfolding verifyBullseyeVerticalBy
 returns c = search runs depth 9
 
-add-try-column : tie.Need-add-try-column
-add-try-column c = search needs
-
 try-column-requires-2 : tie.Need-try-column-requires-2
 try-column-requires-2 c κs = search needs
 
@@ -27,9 +30,6 @@ same-length-2 c = search needs
 returns-2 : tie.Need-returns-2
 unfolding verifyBullseyeVerticalBy
 returns-2 c = search runs depth 9
-
-sub-try-column : tie.Need-sub-try-column
-sub-try-column c = search needs
 
 try-column-requires-3 : tie.Need-try-column-requires-3
 try-column-requires-3 c κs = search needs
@@ -45,14 +45,14 @@ pub verify-bullseye-vertical-spec : {M : Type 1} → statement M
 verify-bullseye-vertical-spec =
     tie.close
     (tie.spec
+    add-next
+    sub-before
     try-column-requires
     same-length
     returns
-    add-try-column
     try-column-requires-2
     same-length-2
     returns-2
-    sub-try-column
     try-column-requires-3
     same-length-3
     returns-3)

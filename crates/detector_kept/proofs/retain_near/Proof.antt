@@ -1,6 +1,6 @@
 -- `detector_kept::retain_near` meets its contract. The invariant: the front holds what is retained of the records passed, and the others are unmoved. Assumes nothing.
 use Prim.Native.Nat.{_-_}
-use Rattle.detector_kept.proofs.Retaining.{Retaining, begins, passed, taken, over}
+use Rattle.detector_kept.proofs.Retaining.{Retaining, begins, retained-passed, taken, over}
 use borrow.Author.Needs.{needs}
 use Rattle.detector_kept.proofs.retain_near.Statement.{statement}
 use Rattle.detector_kept.proofs.retain_near.Tie as tie
@@ -36,7 +36,7 @@ loop-less-2 : tie.Need-loop-less-2 Inv-loop μ-loop
 loop-less-2 c = search needs
 
 loop-again-2 : tie.Need-loop-again-2 Inv-loop μ-loop
-loop-again-2 c = search passed
+loop-again-2 c = search retained-passed
 
 same-length : tie.Need-same-length Inv-loop μ-loop
 same-length c = search needs

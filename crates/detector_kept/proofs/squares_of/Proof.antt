@@ -1,6 +1,6 @@
 -- `detector_kept::squares_of` meets its contract. The invariant: what is left, added to the sum, gives the whole. Assumes nothing.
 use Prim.Native.Nat.{_-_}
-use Rattle.detector_kept.specs.Spread.{further}
+use Rattle.detector_kept.specs.Spread.{withSquare}
 use Rattle.detector_kept.proofs.Columns.{Squared, squares-begin, squares-onward, squares-over}
 use borrow.Author.Needs.{needs}
 use Rattle.detector_kept.proofs.squares_of.Statement.{statement}
@@ -37,7 +37,7 @@ loop-less : tie.Need-loop-less Inv-loop μ-loop
 loop-less c = search needs
 
 loop-again : tie.Need-loop-again Inv-loop μ-loop
-unfolding further
+unfolding withSquare
 loop-again c = search squares-onward
 
 returns : tie.Need-returns Inv-loop μ-loop

@@ -13,13 +13,13 @@ sub-width : tie.Need-sub-width
 sub-width c = search needs
 
 mul-least : tie.Need-mul-least
-mul-least c = let s = c .before .before in omega (arith, row-fits (s .args .point) (s .args .boundary) (s .pre .0) (s .pre .1))
+mul-least c = let s = c .before in omega (arith, row-fits (s .args .point) (s .args .boundary) (s .pre .0) (s .pre .1))
 
 add-least : tie.Need-add-least
-add-least c = let s = c .before .before in omega (arith, row-fits (s .args .point) (s .args .boundary) (s .pre .0) (s .pre .1))
+add-least c = let s = c .before in omega (arith, row-fits (s .args .point) (s .args .boundary) (s .pre .0) (s .pre .1))
 
 add-least-2 : tie.Need-add-least-2
-add-least-2 c = let s = c .before .before .before in omega (arith, row-fits (s .args .point) (s .args .boundary) (s .pre .0) (s .pre .1))
+add-least-2 c = let s = c .before in omega (arith, row-fits (s .args .point) (s .args .boundary) (s .pre .0) (s .pre .1))
 
 sub-least : tie.Need-sub-least
 sub-least c = search needs
@@ -28,17 +28,17 @@ least-requires : tie.Need-least-requires
 least-requires c κs = search needs
 
 mul-least-2 : tie.Need-mul-least-2
-mul-least-2 c = let s = c .before .before .before .before in omega (arith, column-fits (s .args .point) (s .args .boundary) (s .pre .0) (s .pre .1))
+mul-least-2 c = let s = c .before .before in omega (arith, column-fits (s .args .point) (s .args .boundary) (s .pre .0) (s .pre .1))
 
 add-least-3 : tie.Need-add-least-3
-add-least-3 c = let s = c .before .before .before .before in omega (arith, column-fits (s .args .point) (s .args .boundary) (s .pre .0) (s .pre .1))
+add-least-3 c = let s = c .before .before in omega (arith, column-fits (s .args .point) (s .args .boundary) (s .pre .0) (s .pre .1))
 
 mul-least-3 : tie.Need-mul-least-3
-mul-least-3 c = let s = c .before .before .before .before in omega (arith, shift-fits (s .args .point) (s .args .boundary) (s .pre .0) (s .pre .1))
+mul-least-3 c = let s = c .before .before in omega (arith, shift-fits (s .args .point) (s .args .boundary) (s .pre .0) (s .pre .1))
 
 add-least-4 : tie.Need-add-least-4
 add-least-4 c =
-    let s = c .before .before .before .before in
+    let s = c .before .before in
     let column = column-fits (s .args .point) (s .args .boundary) (s .pre .0) (s .pre .1) in
     omega (arith, column, shift-fits (s .args .point) (s .args .boundary) (s .pre .0) (s .pre .1))
 

@@ -6,7 +6,7 @@ use native.Mathlib.Omega.{arith}
 use borrow.Author.Needs.{needs}
 use lib.ListN.{length, getD, drop, drop-of-length-le}
 use lib.Seq.{drop-cons}
-use Rattle.detector_rows.specs.Rows.{total}
+use Rattle.reads.specs.Total.{total}
 use Rattle.detector_rows.proofs.sum.Statement.{statement}
 use Rattle.detector_rows.proofs.sum.Tie as tie
 

@@ -19,8 +19,9 @@ use Rattle.bit_matrix.specs.declared.Shape.{Shape}
 use Rattle.bit_matrix.specs.Shape.{size, Limits}
 use Rattle.bit_runs.specs.BitRuns.{rowBit, Changes}
 use Rattle.bit_runs.specs.ChangesLaws.{changes-fewer, same-until, changes-at, changes-after}
-use Rattle.detector_rows.specs.Rows.{total, radiusOf, metadata, none, windowBy, windowFrom}
-use Rattle.detector_rows.specs.RowsLaws.{Counted, counted-none}
+use Rattle.reads.specs.Total.{total}
+use Rattle.detector_rows.specs.Rows.{radiusOf, metadata, none, windowBy, windowFrom}
+use Rattle.detector_rows.specs.RowsLaws.{CountedRuns, counted-none}
 use Rattle.detector_rows.specs.Ring.{bucketsOf, colour, closing, Swept}
 use Rattle.detector_rows.specs.declared.Bullseye.{Bullseye}
 use Rattle.detector_rows.proofs.RingLaws.{none-counted, colour-next}
@@ -48,7 +49,7 @@ record Sweeping (words : List ℕ) (shape : Shape) (row from limit : ℕ) (ring 
   few : k ≤ column
   sixteen : length ring ≡ 16
   starts : getD ring (k % 16) 0 ≤ column
-  counted : Counted from column (min k 10) (bucketsOf ring k column)
+  counted : CountedRuns from column (min k 10) (bucketsOf ring k column)
   known : Changes (rowBit words (row * shape .«row_words»)) (colour k) column (stop - column) changes
   rest : Rest words shape row from limit column (sweepAt shape row limit ring k column)
 
@@ -149,7 +150,7 @@ module _ {words : List ℕ} {shape : Shape} {row from limit : ℕ} {ring : List 
     turned : rowBit words (row * shape .«row_words») end ≡ not (colour k)
     turned = ap (rowBit words (row * shape .«row_words»)) is ∙ changes-at (sweep .known) n (omega arith) short zeros
 
-    runs : Counted from end (min k 10) (bucketsOf ring k end)
+    runs : CountedRuns from end (min k 10) (bucketsOf ring k end)
     runs = counted-to ring k column end (omega arith) (sweep .starts) (sweep .counted)
 
     -- what the window's metadata ask for

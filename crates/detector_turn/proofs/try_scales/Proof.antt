@@ -3,7 +3,7 @@
 use Prim.Native.Nat.{ℕ, suc, _+_, _-_, _≤_, _<_}
 use mathlib.Core.Bool.{Bool, true, false}
 use mathlib.Core.List.{List}
-use mathlib.Core.Path.{_≡_, sym, _∙_}
+use mathlib.Core.Path.{_≡_, refl, sym, _∙_}
 use native.Mathlib.Omega.{arith}
 use borrow.Author.Needs.{needs}
 use lib.Dec.{T}
@@ -20,19 +20,20 @@ use Rattle.detector_degrees.specs.declared.Rotation.{Rotation}
 use Rattle.detector_degrees.specs.declared.Rotation.the-variants.{Found, None}
 use Rattle.detector_turn.specs.declared.Turn.{Turn}
 use Rattle.detector_turn.specs.Scales.{LentCircle, acceptedScale, turnedBy, notTurned, lostAt, isOutside, attemptRotationBox, scalesFrom, tryScales}
-use Rattle.detector_turn.specs.ScalesLaws.{inside-of, radius-kept, accepted}
+use Rattle.detector_turn.specs.ScalesLaws.{inside-of, radius-kept, scale-accepted}
 use Rattle.detector_turn.proofs.try_scales.Statement.{statement}
 use Rattle.detector_turn.proofs.try_scales.Tie as tie
 
 record Trying (words marks₀ : List ℕ) (shape : Shape) (table : List Float) (start : Circle) (marks : List ℕ) (circle : Circle) (scale : ℕ) : Type 0 where
   lent : LentCircle shape words marks circle table
+  same : circle .radius ≡ start .radius
   first : 1 ≤ scale
   resumes : Resumes words (scalesFrom shape (6 - scale) scale circle) marks (tryScales shape start) marks₀
 
 begins : {words marks : List ℕ} {shape : Shape} {table : List Float} {circle : Circle} → LentCircle shape words marks circle table
     → Trying words marks shape table circle marks circle 1
 unfolding tryScales
-begins lent = record { lent = lent; first = omega arith; resumes = resumes-start }
+begins lent = record { lent = lent; same = refl; first = omega arith; resumes = resumes-start }
 
 -- lent again after marks were set
 again : {words marks after : List ℕ} {shape : Shape} {circle : Circle} {table : List Float}
@@ -65,11 +66,13 @@ module _ {words marks₀ marks : List ℕ} {shape : Shape} {table : List Float} 
     unfolding scalesFrom
     outside t e = resumes-end (ran-is e) (resumes-then _ _ (sym asked ∙ t) (resumes-step _ ran (rw left at (trying .resumes))))
 
+    kept : next .radius ≡ circle .radius
+    kept = always-ran (radius-kept shape circle) ran
+
     module _ (f : out ≡ false) where
       -- the corrected circle, its centre inside, is lent on
       lent-on : LentCircle shape words after next table
       lent-on =
-          let kept : next .radius ≡ circle .radius = always-ran (radius-kept shape circle) ran in
           let before = again (trying .lent) (ran-length ran) in
           record {
             lent = record { image = before .lent .image; inside = inside-of shape (next .center) (sym asked ∙ f); table-is = before .lent .table-is };
@@ -79,7 +82,7 @@ module _ {words marks₀ marks : List ℕ} {shape : Shape} {table : List Float} 
 
       module _ {percent : Float} (s : percent ≡ acceptedScale scale) where
         is-scale : T (isScale percent)
-        is-scale = rw s (accepted scale (trying .first) h)
+        is-scale = rw s (scale-accepted scale (trying .first) h)
 
         module _ {rotation : Rotation} {last : List ℕ} (tried : Ran (attemptRotationBox shape next percent) words after rotation last) where
           found : {r : Turn} {degree : ℕ} → rotation ≡ Found degree → r ≡ turnedBy degree scale (next .center) → Result r last
@@ -88,19 +91,25 @@ module _ {words marks₀ marks : List ℕ} {shape : Shape} {table : List Float} 
               resumes-end (ran-is e)
               (resumes-step _ (rw (is, s) at tried) (resumes-else _ _ (sym asked ∙ f) (resumes-step _ ran (rw left at (trying .resumes)))))
 
-          onward : rotation ≡ None → Trying words marks₀ shape table start last next (scale + 1)
+          -- the next scale starts at the corrected circle: its centre, and the radius that it has
+          at-next : {radius : ℕ} → rotation ≡ None → radius ≡ next .radius
+              → Trying words marks₀ shape table start last (record { center = next .center; radius = radius }) (scale + 1)
           unfolding scalesFrom
-          onward is = record {
+          at-next is same = rw same record {
             lent = again lent-on (ran-length tried);
+            same = kept ∙ trying .same;
             first = omega arith;
             resumes = resumes-step _ (rw (is, s) at tried) (resumes-else _ _ (sym asked ∙ f) (resumes-step _ ran (rw left at (trying .resumes))));
           }
 
+          onward : rotation ≡ None → Trying words marks₀ shape table start last (record { center = next .center; radius = start .radius }) (scale + 1)
+          onward is = at-next is (sym (kept ∙ trying .same))
+
 abbrev Inv-loop : tie.InvT-loop
-Inv-loop words marks₀ shape table last₀ scale₀ marks last scale = Trying words marks₀ shape table last₀ marks last scale
+Inv-loop words marks₀ shape circle table last₀ scale₀ marks last scale = Trying words marks₀ shape table circle marks last scale
 
 abbrev μ-loop : tie.MeasureT-loop
-μ-loop words marks₀ shape table last₀ scale₀ marks last scale = 6 - scale
+μ-loop words marks₀ shape circle table last₀ scale₀ marks last scale = 6 - scale
 
 loop-holds : tie.Need-loop-holds Inv-loop μ-loop
 loop-holds c = search begins
@@ -154,14 +163,15 @@ loop-less c = search needs
 
 loop-again : tie.Need-loop-again Inv-loop μ-loop
 loop-again c =
-    let tried = c .before .before .before .before in
+    let told = c .before in
+    let tried = told .before .before .before .before in
     let percent = tried .before .before in
     let outside = percent .before in
     let asked = outside .before in
     let ran = asked .before .before .before in
     let turn = ran .before .before in
     onward (turn .before .loop .inv) (turn .loop-test .taken) (ran .with-corrected-center .ensures) (asked .is-outside .ensures) (outside .if1 .left)
-    (percent .accepted-scale .ensures) (tried .attempt-rotation-box .ensures) (c .enum-told .given .1)
+    (percent .accepted-scale .ensures) (tried .attempt-rotation-box .ensures) (told .enum-told .given .1)
 
 not-turned-requires : tie.Need-not-turned-requires Inv-loop μ-loop
 not-turned-requires c κs = search needs

@@ -10,14 +10,13 @@ use Rattle.sines.specs.declared.Angle.{Angle}
 use Rattle.sines.specs.Sines.{angleOf}
 use Rattle.rxing_result_point.specs.declared.Point.{Point}
 use Rattle.rxing_result_point.specs.declared.PointU.{PointU}
-use Rattle.detector_walks.specs.Walks.{walk, findEnds, findWidthAtDegree, Sloped, Slanted}
-use Rattle.detector_walks.specs.StepsLaws.{slanted}
+use Rattle.detector_walks.specs.Walks.{walk, findEnds, findWidthAtDegree, OfDegree}
 use borrow.Author.Needs.{needs}
 use Rattle.detector_walks.proofs.find_width_at_degree.Statement.{statement}
 use Rattle.detector_walks.proofs.find_width_at_degree.Tie as tie
 
-slanted-at : (degree : ℕ) {angle : Angle} → Sloped degree → angle ≡ angleOf degree → Slanted angle
-slanted-at degree h e = rw e (slanted degree h)
+of-degree : (degree : ℕ) {angle : Angle} → angle ≡ angleOf degree → OfDegree angle
+of-degree degree e = record { degree = degree; is = e }
 
 ended : {words m₀ m₁ m₂ : List ℕ} (shape : Shape) (center : PointU) (degree : ℕ) {angle : Angle} {left right : Point} → angle ≡ angleOf degree
     → Ran (walk shape center angle true) words m₀ left m₁ → Ran (walk shape center angle false) words m₁ right m₂
@@ -29,10 +28,10 @@ angle-of-requires : tie.Need-angle-of-requires
 angle-of-requires c κs = search needs
 
 walk-requires : tie.Need-walk-requires
-walk-requires c κs = search (needs, slanted-at)
+walk-requires c κs = search (needs, of-degree)
 
 walk-requires-2 : tie.Need-walk-requires-2
-walk-requires-2 c κs = search (needs, slanted-at)
+walk-requires-2 c κs = search (needs, of-degree)
 
 same-length : tie.Need-same-length
 same-length c = search needs

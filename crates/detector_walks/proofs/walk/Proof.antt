@@ -19,8 +19,8 @@ use Rattle.sines.specs.declared.Angle.{Angle}
 use Rattle.sines.specs.Rules.{scaled}
 use Rattle.rxing_result_point.specs.declared.Point.{Point}
 use Rattle.rxing_result_point.specs.declared.PointU.{PointU}
-use Rattle.detector_walks.specs.Walks.{walkPoint, whitePoint, leftFrom, rightFrom, firstColumn, walk, stepsRight, Slanted}
-use Rattle.detector_walks.specs.StepsLaws.{steps-some}
+use Rattle.detector_walks.specs.Walks.{walkPoint, whitePoint, leftFrom, rightFrom, firstColumn, walk, stepsRight, OfDegree}
+use Rattle.detector_walks.specs.StepsLaws.{steps-some, steps-few}
 use Rattle.detector_walks.specs.WalksLaws.{before-end}
 use Rattle.detector_walks.proofs.walk.Statement.{statement}
 use Rattle.detector_walks.proofs.walk.Tie as tie
@@ -29,16 +29,16 @@ module _ (words : List ℕ) (shape : Shape) (center : PointU) (angle : Angle) wh
   -- what is left in column x, and how many steps at most
   abbrev rest : Bool → ℕ → Reads Point
   rest true x = leftFrom shape center angle x
-  rest false x = rightFrom shape center angle (suc (center .x + stepsRight (angle .sin) - x)) x
+  rest false x = rightFrom shape center angle (suc (center .x + stepsRight shape angle - x)) x
 
   abbrev steps : Bool → ℕ → ℕ
   steps true x = x
-  steps false x = center .x + stepsRight (angle .sin) - x
+  steps false x = center .x + stepsRight shape angle - x
 
   record Walking (marks₀ : List ℕ) (left : Bool) (marks : List ℕ) (x : ℕ) : Type 0 where
     sized : length marks ≡ length words
     low : x ≤ 2 ^ 24
-    near : left ≡ false → x ≤ center .x + stepsRight (angle .sin)
+    near : left ≡ false → x ≤ center .x + stepsRight shape angle
     resumes : Resumes words (rest left x) marks (walk shape center angle left) marks₀
 
   begins : {marks : List ℕ} (left : Bool) {x : ℕ} → Limits shape → Inside shape (center .x) (center .y) → length marks ≡ length words
@@ -48,8 +48,8 @@ module _ (words : List ℕ) (shape : Shape) (center : PointU) (angle : Angle) wh
       let low : x ≤ 2 ^ 24 = omega (arith, limits .width-most, inside .column, e) in
       record { sized = same; low = low; near = λ f. absurd (true≢false f); resumes = rw e resumes-start }
   begins false {x} limits inside same e =
-      let some = steps-some (scaled (angle .sin)) in
-      let all : suc (center .x + stepsRight (angle .sin) - (center .x + 1)) ≡ stepsRight (angle .sin) = omega arith in
+      let some = steps-some shape (scaled (angle .sin)) in
+      let all : suc (center .x + stepsRight shape angle - (center .x + 1)) ≡ stepsRight shape angle = omega arith in
       let low : x ≤ 2 ^ 24 = omega (arith, limits .width-most, inside .column, e) in
       record { sized = same; low = low; near = λ f. rw e (omega (arith, some)); resumes = rw (e, all) resumes-start }
 
@@ -70,23 +70,20 @@ module _ (words : List ℕ) (shape : Shape) (center : PointU) (angle : Angle) wh
 
     -- to the right
     module _ (walking : Walking marks₀ false marks x) (limits : Limits shape) (inside : Inside shape (center .x) (center .y))
-        (slanted : Slanted angle) (e : white ≡ true) where
-      before : x < center .x + stepsRight (angle .sin)
-      before = before-end center angle slanted words limits inside x (walking .near refl) (ran .result) e
+        (of : OfDegree angle) (e : white ≡ true) where
+      before : x < center .x + stepsRight shape angle
+      before = before-end limits center inside of words x (walking .near refl) (ran .result) e
 
-      room-right : x + 1 < 2 ^ 32
-      room-right = omega (arith, before, slanted .few, limits .width-most, inside .column)
-
-      nearer : center .x + stepsRight (angle .sin) - (x + 1) < center .x + stepsRight (angle .sin) - x
+      nearer : center .x + stepsRight shape angle - (x + 1) < center .x + stepsRight shape angle - x
       nearer = omega (arith, before)
 
       past : length after ≡ length marks → Walking marks₀ false after (x + 1)
       unfolding rightFrom
       past kept =
-          let fuel : center .x + stepsRight (angle .sin) - x ≡ suc (center .x + stepsRight (angle .sin) - (x + 1)) = omega (arith, before) in
+          let fuel : center .x + stepsRight shape angle - x ≡ suc (center .x + stepsRight shape angle - (x + 1)) = omega (arith, before) in
           record {
             sized = kept ∙ walking .sized;
-            low = omega (arith, before, slanted .few, limits .width-most, inside .column);
+            low = omega (arith, before, steps-few of limits, limits .width-most, inside .column);
             near = λ f. omega (arith, before);
             resumes = resumes-then _ _ e (resumes-step _ ran (rw fuel at (walking .resumes)));
           }
@@ -116,18 +113,14 @@ module _ (words : List ℕ) (shape : Shape) (center : PointU) (angle : Angle) wh
     }
     onward-left false l walking some e kept = absurd (true≢false (sym l))
 
-    module _ (limits : Limits shape) (inside : Inside shape (center .x) (center .y)) (slanted : Slanted angle) where
+    module _ (limits : Limits shape) (inside : Inside shape (center .x) (center .y)) (of : OfDegree angle) where
       onward-right : (left : Bool) → left ≡ false → Walking marks₀ left marks x → white ≡ true → length after ≡ length marks → Walking marks₀ left after (x + 1)
       onward-right true l walking e kept = absurd (true≢false l)
-      onward-right false l walking e kept = past walking limits inside slanted e kept
+      onward-right false l walking e kept = past walking limits inside of e kept
 
       fewer-right : (left : Bool) → left ≡ false → Walking marks₀ left marks x → white ≡ true → steps left (x + 1) < steps left x
       fewer-right true l walking e = absurd (true≢false l)
-      fewer-right false l walking e = nearer walking limits inside slanted e
-
-      room : (left : Bool) → left ≡ false → Walking marks₀ left marks x → white ≡ true → x + 1 < 2 ^ 32
-      room true l walking e = absurd (true≢false l)
-      room false l walking e = room-right walking limits inside slanted e
+      fewer-right false l walking e = nearer walking limits inside of e
 
   fewer-left : (left : Bool) → left ≡ true → {x : ℕ} → x ≢ 0 → steps left (x - 1) < steps left x
   fewer-left true l some = omega arith
@@ -167,7 +160,7 @@ loop-again : tie.Need-loop-again Inv-loop μ-loop
 loop-again c = search onward-left
 
 add-x : tie.Need-add-x Inv-loop μ-loop
-add-x c = record { fits = search room }
+add-x c = search needs
 
 loop-less-2 : tie.Need-loop-less-2 Inv-loop μ-loop
 loop-less-2 c = search fewer-right

@@ -3,18 +3,18 @@ use borrow.Author.Needs.{needs}
 use mathlib.Core.Path.{refl}
 use Rattle.crop.specs.CropLaws.{rows-of}
 use Rattle.step_exports.proofs.Guarding.{refuse-test, lent-as, lent-passed, lent-passed-as, answer}
-use Rattle.step_exports.proofs.Running.{sloped-walked, walked-ran}
+use Rattle.step_exports.proofs.Running.{walked-ran}
 use Rattle.step_exports.proofs.boxes.step_find_width_at_degree.Statement.{statement}
 use Rattle.step_exports.proofs.boxes.step_find_width_at_degree.Tie as tie
 
 shape-in-requires : tie.Need-shape-in-requires
 shape-in-requires c κs = search needs
 
-element-copy-out-t17 : tie.Need-element-copy-out-t17
-element-copy-out-t17 c = search needs
+element-copy-out-t16 : tie.Need-element-copy-out-t16
+element-copy-out-t16 c = search needs
 
-element-copy-out-t20 : tie.Need-element-copy-out-t20
-element-copy-out-t20 c = search needs
+element-copy-out-t19 : tie.Need-element-copy-out-t19
+element-copy-out-t19 c = search needs
 
 is-lent-requires : tie.Need-is-lent-requires
 is-lent-requires c κs = search rows-of
@@ -28,13 +28,10 @@ returns c = refuse-test (lent-as _ _ (search needs) (c .before .is-lent .ensures
 table-requires : tie.Need-table-requires
 table-requires c κs = search needs
 
-walked-degree-requires : tie.Need-walked-degree-requires
-walked-degree-requires c κs = search needs
-
 find-width-at-degree-requires : tie.Need-find-width-at-degree-requires
 find-width-at-degree-requires c κs =
-    let s = c .before .before .before .before in
-    (lent-passed (s .before .is-lent .ensures) (s .if1 .left) (search needs), search sloped-walked)
+    let s = c .before .before .before in
+    lent-passed (s .before .is-lent .ensures) (s .if1 .left) (search needs)
 
 bits-of-f32-requires : tie.Need-bits-of-f32-requires
 bits-of-f32-requires c κs = search needs
@@ -59,13 +56,12 @@ step-find-width-at-degree-spec =
     tie.close
     (tie.spec
     shape-in-requires
-    element-copy-out-t17
-    element-copy-out-t20
+    element-copy-out-t16
+    element-copy-out-t19
     is-lent-requires
     same-length
     returns
     table-requires
-    walked-degree-requires
     find-width-at-degree-requires
     bits-of-f32-requires
     bits-of-f32-requires-2

@@ -2,7 +2,7 @@
 use borrow.Author.Needs.{needs}
 use mathlib.Core.Path.{refl}
 use Rattle.crop.specs.CropLaws.{rows-of}
-use Rattle.step_exports.proofs.Guarding.{refuse-test, passed, image-as, image-passed-as, answer}
+use Rattle.step_exports.proofs.Guarding.{refuse-test, passed-test, image-as, image-passed-as, answer}
 use Rattle.step_exports.proofs.Running.{area-ran}
 use Rattle.step_exports.proofs.boxes.step_try_get_area.Statement.{statement}
 use Rattle.step_exports.proofs.boxes.step_try_get_area.Tie as tie
@@ -28,7 +28,7 @@ element-copy-out-try-get-area-2 c = search needs
 try-get-area-requires : tie.Need-try-get-area-requires
 try-get-area-requires c κs =
     let s = c .before .before .before in
-    passed (s .before .is-image .ensures) (s .if1 .left)
+    passed-test (s .before .is-image .ensures) (s .if1 .left)
 
 sample-number-requires : tie.Need-sample-number-requires
 sample-number-requires c κs = search needs

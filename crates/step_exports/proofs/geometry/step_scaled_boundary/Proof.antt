@@ -3,7 +3,7 @@ use borrow.Author.Needs.{needs}
 use mathlib.Core.Path.{refl}
 use native.Mathlib.Omega.{arith}
 use Rattle.crop.specs.CropLaws.{rows-of}
-use Rattle.step_exports.proofs.Guarding.{refuse, refuse-test, passed, centered-as, centered-passed-as, scale-of, scale-passed-as, answer, scaled-words}
+use Rattle.step_exports.proofs.Guarding.{refuse, refuse-test, passed-test, centered-as, centered-passed-as, scale-of, scale-passed-as, answer, scaled-words}
 use Rattle.step_exports.proofs.geometry.step_scaled_boundary.Statement.{statement}
 use Rattle.step_exports.proofs.geometry.step_scaled_boundary.Tie as tie
 
@@ -40,7 +40,7 @@ returns-3 c = refuse-test (scale-of (search needs) (c .before .is-scale .ensures
 scaled-boundary-requires : tie.Need-scaled-boundary-requires
 scaled-boundary-requires c κs =
     let s = c .before .before .before .before in
-    (passed (s .before .is-centered .ensures) (s .if1 .left), search needs, passed (c .before .is-scale .ensures) (c .if3 .left))
+    (passed-test (s .before .is-centered .ensures) (s .if1 .left), search needs, passed-test (c .before .is-scale .ensures) (c .if3 .left))
 
 returns-4 : tie.Need-returns-4
 returns-4 c = answer (search centered-passed-as, search needs, search scale-passed-as) (refl, search scaled-words)

@@ -1,7 +1,7 @@
 -- `step_exports::guards::is_image` meets its contract. Assumes nothing.
 use borrow.Author.Needs.{needs}
 use mathlib.Core.Path.{sym, _∙_}
-use Rattle.step_exports.proofs.Guarding.{passed, failed, decides-false, decides-rest, decides-equal}
+use Rattle.step_exports.proofs.Guarding.{passed-test, failed-test, decides-false, decides-rest, decides-equal}
 use Rattle.step_exports.proofs.guards.is_image.Statement.{statement}
 use Rattle.step_exports.proofs.guards.is_image.Tie as tie
 
@@ -9,7 +9,7 @@ is-limited-requires : tie.Need-is-limited-requires
 is-limited-requires c κs = search needs
 
 returns : tie.Need-returns
-returns c = decides-false (λ p. failed (c .before .is-limited .ensures) (c .if1 .taken) (p .limits))
+returns c = decides-false (λ p. failed-test (c .before .is-limited .ensures) (c .if1 .taken) (p .limits))
 
 image-words-requires : tie.Need-image-words-requires
 image-words-requires c κs = search needs
@@ -20,7 +20,7 @@ returns-2 c = decides-false (λ p. c .if2 .taken (p .stored ∙ sym (c .before .
 returns-3 : tie.Need-returns-3
 returns-3 c =
     let s = c .before .before in
-    let limits = passed (s .before .is-limited .ensures) (s .if1 .left) in
+    let limits = passed-test (s .before .is-limited .ensures) (s .if1 .left) in
     decides-rest decides-equal (λ same. record { limits = limits; stored = search needs; sized = same }) (λ p. p .sized)
 
 pub is-image-spec : {M : Type 1} → statement M

@@ -2,7 +2,7 @@
 use borrow.Author.Needs.{needs}
 use mathlib.Core.Path.{refl}
 use native.Mathlib.Omega.{arith}
-use Rattle.step_exports.proofs.Guarding.{refuse, refuse-test, passed, small-passed, answer, candidates, spread-words}
+use Rattle.step_exports.proofs.Guarding.{refuse, refuse-test, passed-test, small-passed, answer, candidates, spread-words}
 use Rattle.step_exports.proofs.ranking.step_calculate_center_point_std_dev.Statement.{
   statement,
 }
@@ -25,7 +25,7 @@ returns-2 c = refuse-test (c .before .all-small .ensures) (c .if2 .taken) (λ f.
 
 calculate-center-point-std-dev-requires : tie.Need-calculate-center-point-std-dev-requires
 calculate-center-point-std-dev-requires c κs =
-    let few = passed (c .before .all-small .ensures) (c .if2 .left) in
+    let few = passed-test (c .before .all-small .ensures) (c .if2 .left) in
     candidates (c .before .before .before .capacity-of .ensures) (search needs) few
 
 returns-3 : tie.Need-returns-3

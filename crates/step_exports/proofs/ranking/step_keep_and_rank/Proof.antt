@@ -2,7 +2,7 @@
 use borrow.Author.Needs.{needs}
 use mathlib.Core.Path.{refl}
 use native.Mathlib.Omega.{arith}
-use Rattle.step_exports.proofs.Guarding.{refuse, refuse-test, passed, small-passed, answer, candidates, kept-as}
+use Rattle.step_exports.proofs.Guarding.{refuse, refuse-test, passed-test, small-passed, answer, candidates, kept-as}
 use Rattle.step_exports.proofs.ranking.step_keep_and_rank.Statement.{statement}
 use Rattle.step_exports.proofs.ranking.step_keep_and_rank.Tie as tie
 
@@ -27,7 +27,7 @@ returns-2 c = refuse-test (c .before .all-small .ensures) (c .if2 .taken) (λ f.
 keep-and-rank-requires : tie.Need-keep-and-rank-requires
 keep-and-rank-requires c κs =
     let s = c .before in
-    let few = passed (s .before .all-small .ensures) (s .if2 .left) in
+    let few = passed-test (s .before .all-small .ensures) (s .if2 .left) in
     (candidates (s .before .before .before .before .capacity-of .ensures) (search needs) few, search needs, search needs)
 
 same-length-2 : tie.Need-same-length-2

@@ -1,5 +1,5 @@
--- `step_exports::sweep::count_row` meets its contract. The invariant is `Counting`: from the present column, what is left of the definition ends as the whole does.
--- The measure is the columns left. Assumes nothing.
+-- `step_exports::sweep::count_row` meets its contract. The invariant is `Counting`: from the present column, what is left of the definition ends as the
+-- whole does. The measure is the columns left. Assumes nothing.
 use Prim.Native.Nat.{ℕ, suc, _+_, _-_, _^_, _≤_, _<_}
 use mathlib.Core.Path.{_≡_}
 use mathlib.Core.Bool.{Bool}

@@ -2,7 +2,7 @@
 use borrow.Author.Needs.{needs}
 use mathlib.Core.Path.{refl}
 use Rattle.crop.specs.CropLaws.{rows-of}
-use Rattle.step_exports.proofs.Guarding.{refuse-test, passed, image-as, image-passed-as, answer}
+use Rattle.step_exports.proofs.Guarding.{refuse-test, passed-test, image-as, image-passed-as, answer}
 use Rattle.step_exports.proofs.Running.{counted}
 use Rattle.step_exports.proofs.sweep.step_count_row.Statement.{statement}
 use Rattle.step_exports.proofs.sweep.step_count_row.Tie as tie
@@ -28,7 +28,7 @@ element-copy-out-count-row-2 c = search needs
 count-row-requires : tie.Need-count-row-requires
 count-row-requires c κs =
     let s = c .before .before .before in
-    passed (s .before .is-image .ensures) (s .if1 .left)
+    passed-test (s .before .is-image .ensures) (s .if1 .left)
 
 same-length-2 : tie.Need-same-length-2
 same-length-2 c = search needs

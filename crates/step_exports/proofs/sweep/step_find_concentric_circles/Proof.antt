@@ -3,7 +3,7 @@ use borrow.Author.Needs.{needs}
 use mathlib.Core.Path.{refl}
 use native.Mathlib.Omega.{arith}
 use Rattle.crop.specs.CropLaws.{rows-of}
-use Rattle.step_exports.proofs.Guarding.{refuse, refuse-test, passed, image-as, image-passed-as, answer}
+use Rattle.step_exports.proofs.Guarding.{refuse, refuse-test, passed-test, image-as, image-passed-as, answer}
 use Rattle.step_exports.proofs.Running.{room, listed}
 use Rattle.step_exports.proofs.sweep.step_find_concentric_circles.Statement.{statement}
 use Rattle.step_exports.proofs.sweep.step_find_concentric_circles.Tie as tie
@@ -42,7 +42,7 @@ find-concentric-circles-requires : tie.Need-find-concentric-circles-requires
 find-concentric-circles-requires c κs =
     let s = c .before .before in
     let t = s .before .before .before in
-    (passed (t .before .is-image .ensures) (t .if1 .left), room (s .before .capacity-of .ensures) (s .if2 .left))
+    (passed-test (t .before .is-image .ensures) (t .if1 .left), room (s .before .capacity-of .ensures) (s .if2 .left))
 
 same-length-3 : tie.Need-same-length-3
 same-length-3 c = search needs
