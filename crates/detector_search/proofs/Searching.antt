@@ -20,7 +20,7 @@ use Rattle.detector_candidates.specs.CandidatesLaws.{Candidate, all-candidates}
 use Rattle.detector_rank.specs.Rank.{varianceBits, withVariance, Small}
 use Rattle.detector_kept.specs.KeptLaws.{each-ranked}
 use Rattle.detector_verdict.specs.Verdict.{verdict, Judgeable, Holds, Judged}
-use Rattle.detector_verdict.specs.VerdictLaws.{verdict-counted, counted-few, kept-counted, each-kept}
+use Rattle.detector_verdict.specs.VerdictLaws.{no-records, verdict-counted, counted-few, kept-counted, each-kept}
 use Rattle.detector_verdict.specs.declared.Counts.{Counts}
 use Rattle.detector_boxes.specs.Boxing.{boxedAll, Boxable, AllBoxable, Boxed}
 use Rattle.detector_search.specs.Search.{Result, searchAt, Sought}
@@ -36,10 +36,6 @@ candidate-boxable r candidate =
       least = rw (keeps 2 (λ e. omega arith)) (candidate .least);
       most = rw (keeps 2 (λ e. omega arith)) (omega (arith, candidate .most));
     }
-
-no-records : (rs : List Record) → length rs ≡ 0 → rs ≡ []
-no-records [] h = refl
-no-records (r ∷ rs) h = absurd (omega arith)
 
 module _ {words marks records : List ℕ} {shape : Shape} {capacity : ℕ} (image : Image shape words marks) (room : Room capacity records 0) where
   abbrev sweep : Reads (List Record)
@@ -105,7 +101,7 @@ module _ {words marks records : List ℕ} {shape : Shape} {capacity : ℕ} (imag
       pub none-kept : r .kept ≡ 0 → Sought (searchAt shape capacity) capacity words marks records r m₁ c₂
       unfolding boxedAll
       none-kept none =
-          let nothing : kept ≡ [] = no-records kept (sym number ∙ none) in
+          let nothing : kept ≡ [] = no-records kept (omega (arith, number, none)) in
           sought (rw nothing (ran-done [])) (laid ∙ ap (λ (rs : List Record). laidOut capacity rs records) nothing)
 
       module _ (same : length c₁ ≡ length records) (long : length c₂ ≡ length c₁) where

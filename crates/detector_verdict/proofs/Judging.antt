@@ -8,12 +8,9 @@ use borrow.Author.Tests.{lt-ltb, le-ltb}
 use lib.ListN.{length, take, drop, replicate}
 use Rattle.records.specs.Records.{Record, rows, flat, laidOut}
 use Rattle.detector_kept.specs.Kept.{Candidates, ranked, KeptAndRanked}
+use Rattle.detector_verdict.specs.VerdictLaws.{no-records}
 use Rattle.detector_verdict.specs.Verdict.{Verdict, verdictOf, verdict, Judgeable, Holds, Judged}
 use Rattle.detector_verdict.specs.declared.Counts.{Counts}
-
-no-records : (rs : List Record) → length rs ≤ 0 → rs ≡ []
-no-records [] h = refl
-no-records (r ∷ rs) h = absurd (omega arith)
 
 -- the candidates fit the buffer
 pub kept-requires : {capacity found : ℕ} {records : List ℕ} → Judgeable capacity found records → found ≤ capacity → Candidates found records

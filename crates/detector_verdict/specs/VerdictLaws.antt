@@ -2,7 +2,7 @@
 use Prim.Native.Nat.{ℕ, _+_, _≤_, _<_}
 use native.Mathlib.Omega.{arith}
 use mathlib.Core.Bool.{Bool, true, false}
-use mathlib.Core.List.{List}
+use mathlib.Core.List.{List, [], _∷_}
 use mathlib.Core.Logic.{_⊎_, inl, inr, ⊎-elim}
 use mathlib.Core.Path.{_≡_, refl}
 use borrow.Author.Tests.{ltb-true, ltb-false}
@@ -45,6 +45,10 @@ counted-few {capacity} {c} counted =
     ⊎-elim (λ e. omega (arith, counted .zero e)) (⊎-elim (λ e. omega (arith, counted .seven e)) (λ e. omega (arith, counted .eight e))) (counted .answers)
 
 -- ---- the kept records
+
+pub no-records : (rs : List Record) → length rs ≤ 0 → rs ≡ []
+no-records [] h = refl
+no-records (r ∷ rs) h = absurd (omega arith)
 
 module _ (capacity : ℕ) (candidates : List Record) where
   -- as many as counted

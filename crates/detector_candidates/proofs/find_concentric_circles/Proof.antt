@@ -16,6 +16,7 @@ use Rattle.records.specs.Records.{Record, rows}
 use Rattle.records.specs.RecordsLaws.{length-rows}
 use Rattle.bit_matrix.specs.declared.Shape.{Shape}
 use Rattle.bit_matrix.specs.Shape.{Image}
+use Rattle.bit_matrix.specs.ShapeLaws.{image-kept}
 use Rattle.detector_candidates.specs.Candidates.{rowFrom, rowsBy, rowsFrom, concentricCirclesBy, concentricCircles, Room, Listed}
 use Rattle.bit_matrix.specs.declared.Shape.{Shape}
 use Rattle.bit_matrix.specs.Shape.{Image}
@@ -115,7 +116,7 @@ module _ {words marks₀ records₀ marks records : List ℕ} {shape : Shape} {c
         let most : length now ≤ capacity = omega (arith, listed .stored .counted) in
         record {
           fuel = turned .fuel;
-          image = record { limits = so-far .image .limits; stored = so-far .image .stored; sized = long ∙ so-far .image .sized };
+          image = image-kept (so-far .image) long;
           room = record { few = few; most = so-far .room .most; held = rw same (so-far .room .held) };
           same = same ∙ so-far .same;
           fueled = omega (arith, turned .fueled);

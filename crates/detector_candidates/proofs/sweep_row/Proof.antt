@@ -17,6 +17,7 @@ use Rattle.records.specs.Records.{Record, rows}
 use Rattle.records.specs.RecordsLaws.{length-rows}
 use Rattle.bit_matrix.specs.declared.Shape.{Shape}
 use Rattle.bit_matrix.specs.Shape.{Image}
+use Rattle.bit_matrix.specs.ShapeLaws.{image-kept}
 use Rattle.detector_candidates.specs.Candidates.{Searchable, searchFrom, after, rowBy, rowFrom, Room, Stored, Listed}
 use Rattle.detector_candidates.specs.CandidatesLaws.{FitSearch, search-fit, searchable-first, searchable-next, after-more}
 use Rattle.detector_candidates.specs.declared.Searched.{Searched}
@@ -120,7 +121,7 @@ module _ {words marks₀ records₀ marks records : List ℕ} {shape : Shape} {c
         let now : after (rows count records) s ≡ rows count′ records′ = stored-rows stored few in
         record {
           fuel = turned .fuel;
-          image = record { limits = so-far .image .limits; stored = so-far .image .stored; sized = long ∙ so-far .image .sized };
+          image = image-kept (so-far .image) long;
           at = searchable-next (so-far .at) (fits .onward) e;
           room = record { few = few; most = so-far .room .most; held = rw same (so-far .room .held) };
           same = same ∙ so-far .same;

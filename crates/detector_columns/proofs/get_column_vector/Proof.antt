@@ -14,6 +14,7 @@ use Rattle.reads.specs.Runs.{Ran, Resumes}
 use Rattle.reads.specs.RunsLaws.{ran-done, resumes-start, resumes-step, resumes-then, resumes-else, resumes-end}
 use Rattle.bit_matrix.specs.declared.Shape.{Shape}
 use Rattle.bit_matrix.specs.Shape.{Image}
+use Rattle.bit_matrix.specs.ShapeLaws.{image-kept}
 use Rattle.bit_matrix.specs.Pixels.{pixel}
 use Rattle.detector_widths.specs.Widths.{at}
 use Rattle.detector_widths.specs.Buckets.{bump}
@@ -97,7 +98,7 @@ module _ {words marks₀ marks buckets : List ℕ} {shape : Shape} {column start
           → Looking words marks₀ shape column start up after (set buckets run (at buckets run + 1)) next black run
       unfolding vectorFrom bump
       onward {next} moved most kept = record {
-        image = record { limits = looking .image .limits; stored = looking .image .stored; sized = kept ∙ looking .image .sized };
+        image = image-kept (looking .image) kept;
         six = simp length-set (looking .six);
         within = most;
         room = rw moved λ k. omega (arith, rows-next up (shape .height) row above below, looking .room k, bump-le buckets run k);

@@ -12,7 +12,7 @@ use lib.ListN.{length}
 use Rattle.reads.specs.Runs.{Ran, Resumes}
 use Rattle.reads.specs.RunsLaws.{ran-is, ran-length, always-ran, resumes-start, resumes-step, resumes-then, resumes-else, resumes-end}
 use Rattle.bit_matrix.specs.declared.Shape.{Shape}
-use Rattle.bit_matrix.specs.Shape.{Image}
+use Rattle.detector_walks.specs.WalksLaws.{lent-on}
 use Rattle.detector_boundary.specs.Size.{isScale}
 use Rattle.detector_circle.specs.declared.Circle.{Circle}
 use Rattle.detector_circle.specs.Circle.{correctedCircle}
@@ -38,13 +38,7 @@ begins lent = record { lent = lent; same = refl; first = omega arith; resumes = 
 -- lent again after marks were set
 again : {words marks after : List ℕ} {shape : Shape} {circle : Circle} {table : List Float}
     → LentCircle shape words marks circle table → length after ≡ length marks → LentCircle shape words after circle table
-again {words} {marks} {after} {shape} {circle} before kept =
-    let image : Image shape words after = record {
-      limits = before .lent .image .limits;
-      stored = before .lent .image .stored;
-      sized = kept ∙ before .lent .image .sized;
-    } in
-    record { lent = record { image = image; inside = before .lent .inside; table-is = before .lent .table-is }; least = before .least; most = before .most }
+again before kept = record { lent = lent-on (before .lent) kept; least = before .least; most = before .most }
 
 module _ {words marks₀ marks : List ℕ} {shape : Shape} {table : List Float} {start circle : Circle} {scale : ℕ}
     (trying : Trying words marks₀ shape table start marks circle scale) where
@@ -71,8 +65,8 @@ module _ {words marks₀ marks : List ℕ} {shape : Shape} {table : List Float} 
 
     module _ (f : out ≡ false) where
       -- the corrected circle, its centre inside, is lent on
-      lent-on : LentCircle shape words after next table
-      lent-on =
+      lent-next : LentCircle shape words after next table
+      lent-next =
           let before = again (trying .lent) (ran-length ran) in
           record {
             lent = record { image = before .lent .image; inside = inside-of shape (next .center) (sym asked ∙ f); table-is = before .lent .table-is };
@@ -96,7 +90,7 @@ module _ {words marks₀ marks : List ℕ} {shape : Shape} {table : List Float} 
               → Trying words marks₀ shape table start last (record { center = next .center; radius = radius }) (scale + 1)
           unfolding scalesFrom
           at-next is same = rw same record {
-            lent = again lent-on (ran-length tried);
+            lent = again lent-next (ran-length tried);
             same = kept ∙ trying .same;
             first = omega arith;
             resumes = resumes-step _ (rw (is, s) at tried) (resumes-else _ _ (sym asked ∙ f) (resumes-step _ ran (rw left at (trying .resumes))));
@@ -133,7 +127,7 @@ accepted-scale-requires : tie.Need-accepted-scale-requires Inv-loop μ-loop
 accepted-scale-requires c κs = search needs
 
 attempt-rotation-box-requires : tie.Need-attempt-rotation-box-requires Inv-loop μ-loop
-attempt-rotation-box-requires c κs = (search lent-on, search is-scale)
+attempt-rotation-box-requires c κs = (search lent-next, search is-scale)
 
 enum-known-rotation : tie.Need-enum-known-rotation Inv-loop μ-loop
 enum-known-rotation c = search needs
