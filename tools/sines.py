@@ -2,8 +2,8 @@
 """The table of 360 sines: an f32 for every whole degree, rounded once; a zero has no sign.
 
     tools/sines.py rt      print the entries of SINES in crates/sines/src/lib.rt
-    tools/sines.py antt    print the bit patterns in crates/sines/specs/Table.antt
-    tools/sines.py check   hold both files to the table, and the table to document 01's rules
+    tools/sines.py antt    print the bit patterns of a quarter turn in crates/sines/specs/Table.antt
+    tools/sines.py check   hold both files to the table, and the table to the rules of sines
 
 Each sine is a Taylor series in whole numbers of 2^-PLACES, then rounded once to 24 binary digits.
 No sine of a whole degree but the exact ones, 0, 1/2 and 1, is near a half way.
@@ -88,7 +88,9 @@ def check_files(table):
     entries = re.findall(r"^    (-?[0-9.]+),$", source, re.M)
     assert entries == [shortest(bits) for bits in table], "src/lib.rt"
     patterns = re.findall(r"0x[0-9a-f]+", (CRATE / "specs" / "Table.antt").read_text())
-    assert patterns == [hex(bits) for bits in table], "specs/Table.antt"
+    assert patterns == [hex(bits) for bits in table[:91]], "specs/Table.antt"
+    half = table[:91] + table[89::-1]
+    assert table == half + [(1 << 31) + bits for bits in half[1:180]], "the rest of the turn"
 
 
 def main():
@@ -97,8 +99,8 @@ def main():
         for bits in table:
             print(f"    {shortest(bits)},")
     elif sys.argv[1:] == ["antt"]:
-        for i in range(0, 360, 10):
-            print("    " + " ∷ ".join(hex(bits) for bits in table[i:i + 10]) + (" ∷" if i < 350 else " ∷ []"))
+        for i in range(0, 91, 10):
+            print("    " + " ∷ ".join(hex(bits) for bits in table[i:min(i + 10, 91)]) + (" ∷" if i < 90 else " ∷ []"))
     elif sys.argv[1:] == ["check"]:
         check_rules(table)
         check_files(table)

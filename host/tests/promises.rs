@@ -5,10 +5,12 @@ use std::{
     path::{Path, PathBuf},
 };
 
-/// The tables of promises: these columns hold names and edits.
-const PROMISES: &str = "| Demand | Promise | Contract or theorem | Edit that breaks it |";
-const CONTRACTS: usize = 2;
-const EDITS: usize = 3;
+/// What a block has before its edits, and what it says where it cites no name.
+const REFUSED: &str = "\nRefused:";
+const NO_THEOREM: &str = "Not a theorem";
+
+/// The longest line of the document.
+const COLUMNS: usize = 120;
 
 /// The section with the table of definition files.
 const BELIEVED: &str = "\n## What a reader must believe\n";
@@ -88,37 +90,65 @@ fn declares(path: &str, text: &str, name: &str) -> bool {
     text.lines().any(|line| declared(path, line) == Some(name))
 }
 
-/// The cells of each row of the tables of promises.
-fn rows(text: &str) -> Vec<Vec<&str>> {
+/// The blocks of the document, one to a promise: the section of each, its title and what stands below it.
+fn blocks(text: &str) -> Vec<(&str, &str, &str)> {
     let mut found = Vec::new();
-    for table in text.split(PROMISES).skip(1) {
-        let lines = table.lines().skip(2);
-        for line in lines.take_while(|line| line.starts_with('|')) {
-            found.push(line.trim_matches('|').split('|').map(str::trim).collect());
+    for section in text.split("\n## ").skip(1) {
+        let name = section.lines().next().unwrap_or_default();
+        for block in section.split("\n### ").skip(1) {
+            let (title, below) = block.split_once('\n').unwrap_or((block, ""));
+            found.push((name, title, below));
         }
     }
     found
 }
 
-/// What is wrong with a row: a name without its file, or something else than edits in the last column.
-fn faults(row: &[&str]) -> Vec<String> {
-    if row.len() != 4 || row.iter().any(|cell| cell.is_empty()) {
-        return vec![format!("not four cells with text: {row:?}")];
-    }
+/// The demands of a block, and what it says after them: "Demand 2. .." or "Demands 1, 2. ..".
+fn demands(below: &str) -> Option<(Vec<&str>, &str)> {
+    let below = below.strip_prefix("Demand")?;
+    let (numbers, said) = below.strip_prefix('s').unwrap_or(below).split_once('.')?;
+    let numbers: Vec<&str> = numbers.strip_prefix(' ')?.split(", ").collect();
+    let known = numbers
+        .iter()
+        .all(|number| ["1", "2", "3"].contains(number));
+    (known && !said.trim().is_empty()).then_some((numbers, said))
+}
+
+/// What is wrong with a block: no demand of its section, a name without its file, or something else than edits at its end.
+fn faults(section: &str, title: &str, below: &str) -> Vec<String> {
+    let parts = below.split_once(REFUSED);
+    let Some((said, edits)) = parts.filter(|_| !title.trim().is_empty()) else {
+        return vec![format!("no title, or no edits: {title}")];
+    };
+    let Some((numbers, said)) = demands(said) else {
+        return vec![format!("no demands, or nothing after them: {title}")];
+    };
     let mut found = Vec::new();
-    for (name, rest) in codes(row[CONTRACTS]) {
-        if path_after(rest).is_none() {
-            found.push(format!("no (file) after `{name}`"));
-        }
+    let of_section = |number: &&str| section.starts_with(&format!("Demand {number}: "));
+    if !numbers.iter().any(of_section) {
+        found.push(format!("not of its section, {section}: {title}"));
     }
-    let breaks = codes(row[EDITS]);
-    for (code, _) in &breaks {
-        if !is_edit(code) {
-            found.push(format!("no crate/edit: `{code}`"));
-        }
+    let names = codes(said);
+    if names.is_empty() && !said.contains(NO_THEOREM) {
+        found.push(format!("neither a name nor {NO_THEOREM}: {title}"));
     }
-    if breaks.is_empty() && row[EDITS] != "none" {
-        found.push(format!("neither an edit nor none: {}", row[EDITS]));
+    let bare = names.iter().filter(|(_, rest)| path_after(rest).is_none());
+    found.extend(bare.map(|(name, _)| format!("no (file) after `{name}`: {title}")));
+    found.extend(edit_faults(title, edits));
+    found
+}
+
+/// What is wrong with the end of a block: it holds edits and nothing else, or the word none.
+fn edit_faults(title: &str, edits: &str) -> Vec<String> {
+    let breaks = codes(edits);
+    let wrong = breaks.iter().filter(|(code, _)| !is_edit(code));
+    let mut found: Vec<String> = wrong
+        .map(|(code, _)| format!("no crate/edit: `{code}`: {title}"))
+        .collect();
+    let between: String = edits.split('`').step_by(2).collect();
+    let between = between.replace([',', ' ', '\n'], "");
+    if between != if breaks.is_empty() { "none." } else { "." } {
+        found.push(format!("neither edits nor none: {title}"));
     }
     found
 }
@@ -231,11 +261,28 @@ fn every_edit_is_cited_and_is_there() {
 }
 
 #[test]
-fn rows_hold_names_with_files_and_edits() {
+fn blocks_hold_demands_names_with_files_and_edits() {
     let text = promises();
-    let rows = rows(&text);
-    assert!(rows.len() > 50, "only {} rows were found", rows.len());
-    let problems: Vec<String> = rows.iter().flat_map(|row| faults(row)).collect();
+    let blocks = blocks(&text);
+    assert!(blocks.len() > 80, "only {} blocks were found", blocks.len());
+    let mut problems = Vec::new();
+    let mut titles = BTreeSet::new();
+    for (section, title, below) in blocks {
+        problems.extend(faults(section, title, below));
+        if !titles.insert(title) {
+            problems.push(format!("a title twice: {title}"));
+        }
+    }
+    report(&problems);
+}
+
+#[test]
+fn lines_are_short() {
+    let text = promises();
+    let long = text.lines().filter(|line| line.chars().count() > COLUMNS);
+    let problems: Vec<String> = long
+        .map(|line| format!("over {COLUMNS} columns: {line}"))
+        .collect();
     report(&problems);
 }
 
@@ -292,7 +339,33 @@ fn what_is_wrong_is_noticed() {
     assert!(!declares("D.antt", specs, "a") && !declares("D.antt", specs, "b"));
     assert_eq!(definition_lines(specs), 3);
     assert_eq!(definition_lines("use m.{\n  a,\n  b,\n}\n\nc = a\n"), 1);
-    assert!(faults(&["1", "said", "`a` (c/src/lib.rt)", "none"]).is_empty());
-    assert_eq!(faults(&["1", "said", "`a`, `b`", "`edit`"]).len(), 3);
-    assert_eq!(faults(&["1", "said", "by hand", ""]).len(), 1);
+}
+
+#[test]
+fn a_wrong_block_is_noticed() {
+    let text = "\n## Demand 1: a\n\n### t\nDemand 1. b\nRefused: none.\n\n## c\n";
+    let (section, title, below) = blocks(text)[0];
+    assert_eq!((section, title), ("Demand 1: a", "t"));
+    assert_eq!(faults(section, title, below).len(), 1);
+    let count = |below| faults("Demand 2: a", "t", below).len();
+    assert_eq!(
+        count("Demands 1, 2. `a` (c/src/lib.rt).\nRefused: `c/d`,\n`c/e`.\n"),
+        0
+    );
+    assert_eq!(count("Demand 2. Not a theorem.\nRefused: none.\n"), 0);
+    assert_eq!(count("Demand 2. `a`, `b`.\nRefused: `edit`.\n"), 3);
+    assert_eq!(count("Demand 1. `a` (c/src/lib.rt).\nRefused: `c/d`.\n"), 1);
+    assert_eq!(
+        count("Demand 2. `a` (c/src/lib.rt).\nRefused: `c/d`.\nMore.\n"),
+        1
+    );
+    assert_eq!(count("Demand 2. `a` (c/src/lib.rt).\nRefused:\n"), 1);
+    for below in [
+        "Demand 4. said\nRefused: none.",
+        "said\nRefused: none.",
+        "Demand 2.\nRefused: none.",
+        "Demand 2. said",
+    ] {
+        assert_eq!(count(below), 1);
+    }
 }

@@ -1,8 +1,6 @@
--- The pixels of an image, by its shape, and the number of marked bits. Assumes nothing.
+-- The pixels of an image, by its shape. Assumes nothing.
 use Prim.Native.Nat.{ℕ, _+_, _*_, _/_, _%_}
 use mathlib.Core.Bool.{Bool, false, cond}
-use mathlib.Core.List.{List, [], _∷_}
-use lib.Count.{ones}
 use lib.Dec.{ltb, leb}
 use Rattle.reads.specs.Reads.{Reads, done, read, _>>=_}
 use Rattle.bit_matrix.specs.declared.Shape.{Shape}
@@ -38,8 +36,3 @@ tryGet shape x y =
 abbrev pub ifSample : {B : Type 0} → B → (Bool → B) → Sample → B
 ifSample none some Outside = none
 ifSample none some (Inside black) = some black
-
--- the number of one bits in the words
-unfoldable pub onesOf : List ℕ → ℕ
-onesOf [] = 0
-onesOf (w ∷ ws) = ones w + onesOf ws

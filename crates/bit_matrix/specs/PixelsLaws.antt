@@ -12,7 +12,7 @@ use lib.ListN.{length}
 use Rattle.reads.specs.Reads.{done}
 use Rattle.reads.specs.Bits.{bitAt, mark}
 use Rattle.reads.specs.BitsLaws.{bit-past, mark-past}
-use Rattle.reads.specs.Runs.{Ran}
+use Rattle.reads.specs.RunsClauses.{Ran}
 use Rattle.reads.specs.RunsLaws.{ran-done, ran-read, ran-then, ran-else}
 use Rattle.bit_matrix.specs.declared.Shape.{Shape}
 use Rattle.bit_matrix.specs.Shape.{size, Limits, Inside}
@@ -54,7 +54,8 @@ module _ {shape : Shape} (limits : Limits shape) (x y : ℕ) where
   -- `try_get` tests the offset after the width and height: it never lies past the last word
   pub inside-stored : Inside shape x y → offset shape x y < size shape
   inside-stored inside =
-      let rows : suc y * shape .«row_words» ≤ shape .height * shape .«row_words» = mul-le-mul {m₂ = shape .«row_words»} (omega (arith, inside .row)) (omega arith) in
+      let rows : suc y * shape .«row_words» ≤ shape .height * shape .«row_words» = mul-le-mul {m₂ = shape .«row_words»} (omega (arith, inside .row))
+      (omega arith) in
       omega (arith, rows, limits .rows, inside .column)
 
   -- `get` tests x ≥ width and y ≥ height after the offset: in those rows every pixel lies past the last word

@@ -5,7 +5,8 @@ use mathlib.Core.Path.{_≡_, sym, ap, _∙_}
 use mathlib.Core.List.{List}
 use lib.ListN.{getD}
 use lib.Pow.{high, ones-lt, ones-split, shl-exact, shr-shr}
-use Rattle.reads.specs.Bits.{testBit, bitAt, mask}
+use Rattle.reads.specs.Bits.{testBit, bitAt}
+use Rattle.reads.specs.MasksLaws.{mask}
 use Rattle.bit_runs.specs.BitRuns.{rowBit}
 
 -- ---- a mask

@@ -3,7 +3,8 @@
 ghost use mathlib.Core.Path.{_≡_};
 ghost use Prim.Native.Nat.{_+_, _-_, _*_, _/_, _%_, _^_, _≤_, _<_, min};
 ghost use lib.ListN.{getD};
-ghost use Rattle.reads.specs.Bits.{mask, range, markAll};
+ghost use Rattle.reads.specs.MasksLaws.{mask};
+ghost use Rattle.reads.specs.Bits.{range, markAll};
 ghost use Rattle.bit_runs.specs.BitRuns.{rowBit, FirstBlack, Changes};
 
 fn least(a: usize, b: usize) -> usize

@@ -1,5 +1,5 @@
--- Document 01, "Near pairs", as one table: a field for each case, in the order there, that says what a step's definition gives. `cases` proves the table, by
--- computation. Assumes nothing.
+-- Near pairs, inputs that the rules tell apart by little, as one table: a field for each case says what a step's definition gives. `cases` proves the
+-- table, by computation. Assumes nothing.
 use Prim.Native.Nat.{ℕ, _+_, _*_, _/_, _%_, _^_}
 use mathlib.Core.Bool.{true, false}
 use mathlib.Core.List.{List, [], _∷_, _++_, map, flatMap}
@@ -7,32 +7,37 @@ use mathlib.Core.Path.{_≡_, refl}
 use lib.Count.{ones}
 use lib.Dec.{eqb}
 use lib.ListN.{set, replicate}
-use lib.Ieee.{toSigned}
+use lib.Ieee.{size, round, ofBits, ofInt, add, sub, mul, div, toUnsigned, toSigned}
+use Rattle.ieee.specs.Sign.{abs}
+use Rattle.ieee.specs.Units.{unitsOf}
+use Rattle.ieee_sqrt.specs.Sqrt.{rootBy, isqrt, roundRoot, sqrt}
 use Rattle.ieee.specs.Integral.{floor}
 use Rattle.reads.specs.Reads.{_>>=_, value}
 use Rattle.reads.specs.Bits.{testBit, bitAt, range}
 use Rattle.reads.specs.Runs.{valueOf}
 use Rattle.bit_matrix.specs.Shape.{shapeOf}
 use Rattle.bit_matrix.specs.Pixels.{pixel, tryGet}
-use Rattle.bit_matrix.specs.Area.{countBlack, tryGetArea}
+use Rattle.bit_matrix_area.specs.Area.{countBlack, tryGetArea}
 use Rattle.bit_matrix.specs.declared.Sample.{Sample}
 use Rattle.bit_matrix.specs.declared.Sample.the-variants.{Inside}
 use Rattle.rxing_result_point.specs.Points.{real}
 use Rattle.detector_widths.specs.Widths.{evenRunsPass, oddRunsPass, validWidths}
 use Rattle.detector_widths.specs.Buckets.{bump}
 use Rattle.reads.specs.Total.{total}
-use Rattle.detector_rows.specs.Rows.{metadata, none, skipWhite, windowBy, nextBullseyeBy, nextBullseye}
-use Rattle.detector_rows.specs.declared.Bullseye.{Bullseye}
-use Rattle.detector_variance.specs.Variance.{circleVariance}
+use Rattle.detector_window.specs.Window.{metadata, none}
+use Rattle.detector_rows.specs.Rows.{skipWhite, nextBullseyeBy}
+use Rattle.detector_first_window.specs.FirstWindow.{windowBy}
+use Rattle.detector_rows.specs.RowsClauses.{nextBullseye}
+use Rattle.detector_window.specs.declared.Bullseye.{Bullseye}
+use Rattle.detector_variance.specs.Variance.{widthTo, tenthOfWidth, further, varianceTo, expectedArea, areaVariance, circleVariance}
 use Rattle.records.specs.Records.{Record, filter}
-use Rattle.detector_kept.specs.Spread.{spread}
+use Rattle.detector_kept.specs.Spread.{mean, withSquare, squares, deviation, spread}
 use Rattle.detector_kept.specs.Retain.{near, retain}
-use Rattle.detector_boundary.specs.Size.{idealSide, guessedSize, plainSize}
+use Rattle.detector_size.specs.Size.{idealSide, guessedSize, plainSize}
 use Rattle.detector_boundary.specs.Boundary.{leftShift, rightShift, boundaryOf, plainBoundary}
 use Rattle.detector_boundary.specs.declared.Boundary.{Boundary}
 use Rattle.detector_points.specs.Orientation.{point, adjustedPoint}
-use Rattle.detector_turn.specs.Outcomes.{quarterOf, classOf}
-use Rattle.detector_turn.specs.Scales.{turnedBy}
+use Rattle.detector_outcome.specs.Outcomes.{quarterOf, classOf, turnedBy}
 use Rattle.rxing_result_point.specs.declared.PointU.{PointU}
 
 -- eleven runs of one length
@@ -95,9 +100,11 @@ pub record Cases : Type 0 where
   pub turn-348 : (scale : ℕ) (center : PointU) → classOf (turnedBy 348 scale center) ≡ 0
 
 pub cases : Cases
-unfolding ones toSigned floor _>>=_ value testBit bitAt range valueOf flatMap pixel tryGet countBlack tryGetArea
+unfolding ones size round ofBits ofInt add sub mul div toUnsigned toSigned abs floor unitsOf rootBy isqrt roundRoot sqrt
+    _>>=_ value testBit bitAt range valueOf flatMap pixel tryGet countBlack tryGetArea
     evenRunsPass oddRunsPass validWidths bump total metadata skipWhite windowBy nextBullseyeBy
-    circleVariance filter spread near idealSide guessedSize leftShift rightShift boundaryOf adjustedPoint quarterOf
+    widthTo tenthOfWidth further varianceTo expectedArea areaVariance circleVariance filter mean withSquare squares deviation spread near
+    idealSide guessedSize leftShift rightShift boundaryOf adjustedPoint quarterOf
 cases = record {
   runs-all-1 = refl;
   even-run-1-among-2s = refl;

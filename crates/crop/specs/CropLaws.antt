@@ -1,129 +1,125 @@
 -- What holds of files and images in words that are not refused, and the numbers of a file that was checked. Assumes nothing.
-use Prim.Native.Nat.{ℕ, suc, _≤_}
-use native.Mathlib.Nat.{le-trans}
+use Prim.Native.Nat.{ℕ, _≤_}
 use native.Mathlib.Omega.{arith}
-use mathlib.Core.Bool.{Bool, true, false, cond, _||_, true≢false}
+use mathlib.Core.Bool.{Bool, true, false, cond, _||_}
 use mathlib.Core.List.{List}
 use mathlib.Core.Path.{_≡_, refl, sym, ap, _∙_, subst⁻¹}
-use borrow.Author.Tests.{ltb-false, eqb-true, eqb-false, eq-eqb, not-false}
+use borrow.Author.Tests.{ltb-false, eqb-true, eqb-false, eq-eqb, ne-eqb, not-false}
 use lib.Dec.{eqb, ltb}
 use lib.ListN.{length}
 use Rattle.bit_matrix.specs.declared.Shape.{Shape}
 use Rattle.bit_matrix.specs.Shape.{rowWords, shapeOf, size, Limits}
-use Rattle.crop.specs.Crop.{fileShape, fileWords, badHeader, outside, orElse, sizeRefusal, imageRefusal, unpackRoom, searchRoom, unpackAnswer, fileAnswer}
-use Rattle.crop.specs.Crop.{refusalOf, wordsRefusalOf, fileKind, leastSide, refusal, unpackRefusal, fileRefusal}
-use Rattle.crop.specs.Crop.{Checks, FileAccepted, WordsAccepted, FileReady}
+use Rattle.crop_sizes.specs.ChainLaws.{chain}
+use Rattle.crop_sizes.specs.Sizes.{fileLength, leastSide, outside, misfit, imageRefusal}
+use Rattle.crop_sizes.specs.SizesLaws.{chain-past, both-fail, rows-of, image-within}
+use Rattle.crop_padding.specs.Padding.{filePadded}
+use Rattle.crop_rows.specs.Unpack.{unpacked}
+use Rattle.crop_rows.specs.UnpackClauses.{FileAccepted}
+use Rattle.crop_rows.specs.UnpackLaws.{length-unpacked, unpacked-clean}
+use Rattle.crop.specs.Crop.{fileShape, fileWords, width, height, badHeader, refusalOf, fileKind, noRoom, unpackRefusal, fileRefusal, wordsRefusal}
+use Rattle.crop.specs.CropClauses.{Checks, orSix, WordsAccepted, FileReady}
 use Rattle.crop.specs.declared.Checked.{Checked}
 
--- ---- a chain that is 0: none of its conditions holds
+-- ---- none of the conditions holds
 
-past : (t : Bool) (n rest : ℕ) → cond t (suc n) rest ≡ 0 → (t ≡ false) × (rest ≡ 0)
-past true n rest e = absurd (omega arith)
-past false n rest e = (refl, e)
-
-both : (a b : Bool) → (a || b) ≡ false → (a ≡ false) × (b ≡ false)
-both false b e = (refl, e)
-both true b e = absurd (true≢false e)
-
-else-past : (a b : ℕ) → orElse a b ≡ 0 → (a ≡ 0) × (b ≡ 0)
-unfolding orElse
-else-past a b e = go (eqb a 0) refl e
-  where
-    go : (t : Bool) → eqb a 0 ≡ t → cond t b a ≡ 0 → (a ≡ 0) × (b ≡ 0)
-    go true is e = (eqb-true _ _ is, e)
-    go false is e = absurd (eqb-false _ _ is e)
-
--- numbers joined in either order of brackets
-else-assoc : (a b c : ℕ) → orElse (orElse a b) c ≡ orElse a (orElse b c)
-unfolding orElse
-else-assoc a b c = go (eqb a 0) refl
-  where
-    go : (t : Bool) → eqb a 0 ≡ t → cond (eqb (cond t b a) 0) c (cond t b a) ≡ cond t (cond (eqb b 0) c b) a
-    go true is = refl
-    go false is = rw is refl
-
--- the words to unpack into; the marks and the record buffer
-pub unpack-room : (answer needed words : ℕ) → unpackAnswer answer needed words ≡ 0 → (answer ≡ 0) × (words ≡ needed)
-unfolding unpackRoom
-unpack-room answer needed words e =
-    let parts = else-past answer _ e in
-    (parts .0, eqb-true _ _ (not-false _ (past _ 5 _ (parts .1) .0)))
-
-search-room : (needed marks records : ℕ) → searchRoom needed marks records ≡ 0 → (marks ≡ needed) × (40 ≤ records)
-unfolding searchRoom
-search-room needed marks records e =
-    let buffers = both _ _ (past _ 5 _ e .0) in
+room-of-search : (needed marks records : ℕ) → noRoom needed marks records ≡ false → (marks ≡ needed) × (40 ≤ records)
+room-of-search needed marks records none =
+    let buffers = both-fail _ _ none in
     (eqb-true _ _ (not-false _ (buffers .0)), ltb-false _ _ (buffers .1))
 
--- ---- a shape
-
-pub rows-of : {shape : Shape} {w h : ℕ} → shape ≡ shapeOf w h → shape .«row_words» ≡ rowWords (shape .width)
-rows-of is = subst⁻¹ (λ (s : Shape). s .«row_words» ≡ rowWords (s .width)) is refl
-
-module _ (least : ℕ) (enough : 33 ≤ least) where
-  side : (n : ℕ) → outside least n ≡ false → (33 ≤ n) × (n ≤ 2048)
-  side n inside =
-      let limits = both (ltb n least) (ltb 2048 n) inside in
-      (le-trans enough (ltb-false _ _ (limits .0)), ltb-false _ _ (limits .1))
-
-  -- with its limits, and the length given is the one needed
-  pub size-within : (shape : Shape) (given needed : ℕ) → shape .«row_words» ≡ rowWords (shape .width) → sizeRefusal least shape given needed ≡ 0
-      → Limits shape × (given ≡ needed)
-  unfolding sizeRefusal
-  size-within shape given needed rows e =
-      let size = past _ 1 _ e in
-      let large = past _ 2 _ (size .1) in
-      let sides = both _ _ (size .0) in
-      let wide = side (shape .width) (sides .0) in
-      let high = side (shape .height) (sides .1) in (
-        record {
-          rows = rows;
-          width-least = wide .0;
-          width-most = wide .1;
-          height-least = high .0;
-          height-most = high .1;
-          words-most = ltb-false _ _ (large .0);
-        },
-        eqb-true _ _ (not-false _ (past _ 3 _ (large .1) .0)),
-      )
-
-  -- an image
-  image-within : (shape : Shape) (given needed : ℕ) (padded : Bool) → shape .«row_words» ≡ rowWords (shape .width)
-      → imageRefusal least shape given needed padded ≡ 0 → Limits shape × (given ≡ needed) × (padded ≡ false)
-  image-within shape given needed padded rows e =
-      let parts = else-past _ _ e in
-      let size = size-within shape given needed rows (parts .0) in
-      (size .0, size .1, past padded 4 _ (parts .1) .0)
-
-  -- a file
-  pub file-accepted : (k : ℕ) (file : List ℕ) → refusalOf k least file ≡ 0 → FileAccepted (fileShape file) file
+module _ (least : ℕ) (enough : 33 ≤ least) (k : ℕ) (file : List ℕ) (unfit : Bool) (none : refusalOf k least file unfit ≡ 0) where
+  within : Limits (fileShape file) × (length file ≡ fileLength (width file) (height file))
+      × (filePadded file (width file) (height file) ≡ false) × (unfit ≡ false)
   unfolding refusalOf
-  file-accepted k file e =
-      let image = image-within (fileShape file) _ _ _ refl (past (badHeader k file) 0 _ e .1) in
-      record { limits = image .0; long = image .1; clean = image .2 }
+  within = image-within least enough (fileShape file) _ _ _ unfit refl (chain-past (badHeader k file) 0 _ none .1)
 
-  -- an image in words
-  pub words-accepted : (words : List ℕ) (w h : ℕ) (marks records : List ℕ) → wordsRefusalOf least words w h (length marks) (length records) ≡ 0
-      → WordsAccepted (shapeOf w h) words marks records
-  unfolding wordsRefusalOf
-  words-accepted words w h marks records e =
-      let parts = else-past _ _ e in
-      let image = image-within (shapeOf w h) _ _ _ refl (parts .0) in
-      let room = search-room _ _ _ (parts .1) in
-      record { image = record { limits = image .0; stored = image .1; sized = room .0 ∙ sym (image .1) }; clean = image .2; room = room .1 }
+  pub file-accepted : FileAccepted (fileShape file) file
+  file-accepted = record { limits = within .0; long = within .1; clean = within .2 }
 
--- ---- a file, with the lent buffers
+  fits : unfit ≡ false
+  fits = within .3
 
+pub words-accepted : (words : List ℕ) (w h : ℕ) (marks records : List ℕ) → wordsRefusal words w h (length marks) (length records) ≡ 0
+    → WordsAccepted (shapeOf w h) words marks records
+unfolding wordsRefusal
+words-accepted words w h marks records none =
+    let image = image-within leastSide (omega arith) (shapeOf w h) _ _ _ _ refl none in
+    let room = room-of-search _ _ _ (image .3) in
+    record { image = record { limits = image .0; stored = image .1; sized = room .0 ∙ sym (image .1) }; clean = image .2; room = room .1 }
+
+-- a file, with the lent buffers
 pub file-ready : (file words marks records : List ℕ) → fileRefusal file (length words) (length marks) (length records) ≡ 0
     → FileReady (fileShape file) file words marks records
-unfolding fileRefusal
-file-ready file words marks records e =
-    let parts = else-past _ _ e in
-    let unpack = unpack-room (refusal file) (fileWords file) (length words) (parts .0) in
-    let accepted = file-accepted leastSide (omega arith) fileKind file (unpack .0) in
-    let stored = unpack .1 in
-    let room = search-room _ _ _ (parts .1) in
+file-ready file words marks records none =
+    let accepted = file-accepted leastSide (omega arith) fileKind file _ none in
+    let buffers = both-fail _ _ (fits leastSide (omega arith) fileKind file _ none) in
+    let stored = eqb-true _ _ (not-false _ (buffers .0)) in
+    let room = room-of-search _ _ _ (buffers .1) in
     record { accepted = accepted; image = record { limits = accepted .limits; stored = stored; sized = room .0 ∙ sym stored }; room = room .1 }
+
+-- the words of a file pass as an image in words
+pub unpacked-passes : (file : List ℕ) (w h marks records : ℕ) → Limits (shapeOf w h) → marks ≡ size (shapeOf w h) → 40 ≤ records
+    → 0 ≡ wordsRefusal (unpacked file (shapeOf w h)) w h marks records
+unfolding wordsRefusal imageRefusal
+unpacked-passes file w h marks records limits same room = search (chain, length-unpacked file (shapeOf w h), unpacked-clean file w h) depth 12
+
+-- ---- 6 comes last
+
+abbrev numbered : Bool → Bool → Bool → Bool → Bool → Bool → ℕ
+numbered a b c d e f = cond a 1 (cond b 2 (cond c 3 (cond d 4 (cond e 5 (cond f 6 0)))))
+
+last-six : (a b c d e f : Bool) → numbered a b c d e f ≡ orSix (numbered a b c d e false) f
+unfolding orSix
+last-six true b c d e f = refl
+last-six false true c d e f = refl
+last-six false false true d e f = refl
+last-six false false false true e f = refl
+last-six false false false false true f = refl
+last-six false false false false false f = refl
+
+pub refusal-six : (k least : ℕ) (file : List ℕ) (unfit : Bool) → refusalOf k least file unfit ≡ orSix (refusalOf k least file false) unfit
+unfolding refusalOf imageRefusal
+refusal-six k least file unfit =
+    last-six (badHeader k file) (outside least (width file) || outside least (height file)) (ltb 8000 (fileWords file))
+    (misfit (length file) (fileLength (width file) (height file))) (filePadded file (width file) (height file)) unfit
+
+-- a number of its own, and the number of what is lent
+pub six-kept : {n : ℕ} (unfit : Bool) → (n ≡ 0 → ⊥) → n ≡ orSix n unfit
+unfolding orSix
+six-kept {n} unfit some = rw (ne-eqb n 0 some) refl
+
+pub six-next : {n r : ℕ} (unfit : Bool) → n ≡ 0 → r ≡ cond unfit 6 0 → r ≡ orSix n unfit
+unfolding orSix
+six-next {n} unfit none same = rw (eq-eqb n 0 none) same
+
+-- the lent words first, and then the room for a search
+module _ (number : ℕ) (unfit full : Bool) {n : ℕ} (is : n ≡ orSix number unfit) where
+  pub six-more : (n ≡ 0 → ⊥) → n ≡ orSix number (unfit || full)
+  unfolding orSix
+  six-more some = go (eqb number 0) unfit is
+    where
+      go : (t u : Bool) → n ≡ cond t (cond u 6 0) number → n ≡ cond t (cond (u || full) 6 0) number
+      go false u e = e
+      go true true e = e
+      go true false e = absurd (some e)
+
+  pub six-last : {r : ℕ} → n ≡ 0 → r ≡ cond full 6 0 → r ≡ orSix number (unfit || full)
+  unfolding orSix
+  six-last {r} none same = go (eqb number 0) unfit refl is
+    where
+      go : (t u : Bool) → eqb number 0 ≡ t → n ≡ cond t (cond u 6 0) number → r ≡ cond t (cond (u || full) 6 0) number
+      go false u t e = absurd (eqb-false _ _ t (sym e ∙ none))
+      go true true t e = absurd (omega arith)
+      go true false t e = same
+
+-- with no number
+pub six-past : (n : ℕ) (unfit : Bool) → orSix n unfit ≡ 0 → (n ≡ 0) × (unfit ≡ false)
+unfolding orSix
+six-past n unfit none = go (eqb n 0) refl none
+  where
+    go : (t : Bool) → eqb n 0 ≡ t → cond t (cond unfit 6 0) n ≡ 0 → (n ≡ 0) × (unfit ≡ false)
+    go true is e = (eqb-true _ _ is, chain-past unfit 5 _ e .0)
+    go false is e = absurd (eqb-false _ _ is e)
 
 -- ---- a file that was checked
 
@@ -138,35 +134,36 @@ module _ {file : List ℕ} {c : Checked} (checks : Checks file c) where
   pub checked-shape : c .answer ≡ 0 → c .shape ≡ fileShape file
   checked-shape zero = checks .shape ∙ ap (λ (t : Bool). cond t (fileShape file) (shapeOf 0 0)) (eq-eqb (c .answer) 0 zero)
 
-  -- its number, or one for buffers by the words of its image
-  by-words : (room : ℕ → ℕ) → orElse (c .answer) (room (size (c .shape))) ≡ orElse (refusal file) (room (fileWords file))
-  unfolding orElse
-  by-words room = go (eqb (c .answer) 0) refl ∙ ap (λ (n : ℕ). orElse n (room (fileWords file))) (checks .answer)
+  -- its number, or 6 for buffers by the words of its image
+  by-words : (unfit : ℕ → Bool) → orSix (c .answer) (unfit (size (c .shape))) ≡ refusalOf fileKind leastSide file (unfit (fileWords file))
+  unfolding orSix
+  by-words unfit =
+      go (eqb (c .answer) 0) refl ∙ ap (λ (n : ℕ). orSix n (unfit (fileWords file))) (checks .answer)
+      ∙ sym (refusal-six fileKind leastSide file (unfit (fileWords file)))
     where
-      go : (t : Bool) → eqb (c .answer) 0 ≡ t → cond t (room (size (c .shape))) (c .answer) ≡ cond t (room (fileWords file)) (c .answer)
-      go true is = ap (λ (s : Shape). room (size s)) (checked-shape (eqb-true _ _ is))
+      go : (t : Bool) → eqb (c .answer) 0 ≡ t
+          → cond t (cond (unfit (size (c .shape))) 6 0) (c .answer) ≡ cond t (cond (unfit (fileWords file)) 6 0) (c .answer)
+      go true is = ap (λ (s : Shape). cond (unfit (size s)) 6 0) (checked-shape (eqb-true _ _ is))
       go false is = refl
 
-  pub unpack-refusal-by : (words : ℕ) {r : ℕ} → r ≡ unpackAnswer (c .answer) (size (c .shape)) words → r ≡ unpackRefusal file words
-  unfolding unpackRefusal
-  unpack-refusal-by words e = e ∙ by-words λ n. unpackRoom n words
+  pub unpack-refusal-by : (words : ℕ) {r : ℕ} → r ≡ orSix (c .answer) (misfit words (size (c .shape))) → r ≡ unpackRefusal file words
+  unpack-refusal-by words e = e ∙ by-words (misfit words)
 
   pub file-refusal-by : (words marks records : ℕ) {r : ℕ}
-      → r ≡ fileAnswer (c .answer) (size (c .shape)) words marks records
+      → r ≡ orSix (c .answer) (misfit words (size (c .shape)) || noRoom (size (c .shape)) marks records)
       → r ≡ fileRefusal file words marks records
-  unfolding fileRefusal
-  file-refusal-by words marks records e =
-      e ∙ else-assoc _ _ _ ∙ by-words (λ n. orElse (unpackRoom n words) (searchRoom n marks records)) ∙ sym (else-assoc _ _ _)
+  file-refusal-by words marks records e = e ∙ by-words λ n. misfit words n || noRoom n marks records
 
   -- with no number
   pub file-accepted-by : c .answer ≡ 0 → FileAccepted (c .shape) file
   file-accepted-by zero =
-      subst⁻¹ (λ (s : Shape). FileAccepted s file) (checked-shape zero) (file-accepted leastSide (omega arith) fileKind file (sym (checks .answer) ∙ zero))
+      subst⁻¹ (λ (s : Shape). FileAccepted s file) (checked-shape zero)
+      (file-accepted leastSide (omega arith) fileKind file false (sym (checks .answer) ∙ zero))
 
   module _ (words marks records : List ℕ) {r : ℕ}
-      (is : r ≡ fileAnswer (c .answer) (size (c .shape)) (length words) (length marks) (length records)) (none : r ≡ 0) where
+      (is : r ≡ orSix (c .answer) (misfit (length words) (size (c .shape)) || noRoom (size (c .shape)) (length marks) (length records))) (none : r ≡ 0) where
     pub ready-shape : c .shape ≡ fileShape file
-    ready-shape = checked-shape (unpack-room _ _ _ (else-past _ _ (sym is ∙ none) .0) .0)
+    ready-shape = checked-shape (six-past _ _ (sym is ∙ none) .0)
 
     pub file-ready-by : FileReady (c .shape) file words marks records
     file-ready-by =

@@ -1,11 +1,4 @@
-pub mod Below
 pub mod Crop
-pub mod Unpack
-pub mod Bytes
-pub mod Chain
-pub mod AnyLaws
-pub mod NumberLaws
-pub mod FirstsLaws
+pub mod CropClauses
 pub mod CropLaws
-pub mod UnpackLaws
 pub mod PrefixLaws

@@ -9,16 +9,17 @@ use borrow.Author.Tests.{ltb-false, le-ltb, ne-eqb}
 use lib.Dec.{eqb, ltb}
 use lib.ListN.{length, take}
 use lib.Seq.{length-take-le, getD-take}
-use Rattle.bit_matrix.specs.Shape.{rowWords, shapeOf}
-use Rattle.crop.specs.Crop.{rowBytes, fileLength, imageWords, header, width, height, outside, tooLarge, misfit, filePadded}
-use Rattle.crop.specs.Crop.{orElse, sizeRefusal, imageRefusal, refusalOf}
+use Rattle.bit_matrix.specs.Shape.{rowWords, shapeOf, size}
+use Rattle.crop_sizes.specs.Sizes.{rowBytes, fileLength, outside, misfit, imageRefusal}
+use Rattle.crop_padding.specs.Padding.{filePadded}
+use Rattle.crop.specs.Crop.{header, width, height, refusalOf}
 
 -- no accepted file has more than 64,004 bytes
-too-long : (w h : ℕ) {n : ℕ} → 64004 < n → tooLarge (shapeOf w h) ≡ false → misfit n (fileLength w h) ≡ true
+too-long : (w h : ℕ) {n : ℕ} → 64004 < n → ltb 8000 (size (shapeOf w h)) ≡ false → misfit n (fileLength w h) ≡ true
 too-long w h {n} long large =
-    let most : imageWords w h ≤ 8000 = ltb-false _ _ large in
+    let most : size (shapeOf w h) ≤ 8000 = ltb-false _ _ large in
     let bytes : rowBytes w * h ≤ 8 * rowWords w * h = mul-le-mul-right {m = rowBytes w} {n = 8 * rowWords w} h (omega arith) in
-    let rows : rowBytes w * h ≤ 8 * imageWords w h = omega (arith, mul-assoc 8 (rowWords w) h) in
+    let rows : rowBytes w * h ≤ 8 * size (shapeOf w h) = omega (arith, mul-assoc 8 (rowWords w) h) in
     ap not (ne-eqb n (fileLength w h) λ e. omega arith)
 
 -- a file's number by its header's, its length, and whether a padding bit is 1
@@ -26,19 +27,19 @@ abbrev numbered : ℕ → ℕ → ℕ → ℕ → Bool → ℕ
 numbered k least head n padded =
     let w : ℕ = head / 2 ^ 16 % 2 ^ 12 in
     let h : ℕ = head / 2 ^ 4 % 2 ^ 12 in
-    cond (ltb n 4 || not (eqb (head / 2 ^ 28) k) || not (eqb (head % 2 ^ 4) 0)) 1 (imageRefusal least (shapeOf w h) n (fileLength w h) padded)
+    cond (ltb n 4 || not (eqb (head / 2 ^ 28) k) || not (eqb (head % 2 ^ 4) 0)) 1 (imageRefusal least (shapeOf w h) n (fileLength w h) padded false)
 
 -- a number by what is true of an image
 abbrev by : Bool → Bool → Bool → Bool → ℕ
-by sides large long padded = orElse (cond sides 2 (cond large 3 (cond long 4 0))) (cond padded 5 0)
+by sides large long padded = cond sides 2 (cond large 3 (cond long 4 (cond padded 5 0)))
 
 module _ (k least m n : ℕ) (p q : Bool) (m-long : 64004 < m) (n-long : 64004 < n) where
   -- two long images of one size
-  image-same : (w h : ℕ) → imageRefusal least (shapeOf w h) m (fileLength w h) p ≡ imageRefusal least (shapeOf w h) n (fileLength w h) q
-  unfolding sizeRefusal orElse
-  image-same w h = go (outside least w || outside least h) (tooLarge (shapeOf w h)) refl
+  image-same : (w h : ℕ) → imageRefusal least (shapeOf w h) m (fileLength w h) p false ≡ imageRefusal least (shapeOf w h) n (fileLength w h) q false
+  unfolding imageRefusal
+  image-same w h = go (outside least w || outside least h) (ltb 8000 (size (shapeOf w h))) refl
     where
-      go : (a b : Bool) → tooLarge (shapeOf w h) ≡ b → by a b (misfit m (fileLength w h)) p ≡ by a b (misfit n (fileLength w h)) q
+      go : (a b : Bool) → ltb 8000 (size (shapeOf w h)) ≡ b → by a b (misfit m (fileLength w h)) p ≡ by a b (misfit n (fileLength w h)) q
       go true b e = refl
       go false true e = refl
       go false false e = rw (too-long w h m-long e, too-long w h n-long e) refl
@@ -54,7 +55,7 @@ unfolding header
 header-same file n h =
     rw (getD-take n file 0 0 (omega arith), getD-take n file 1 0 (omega arith), getD-take n file 2 0 (omega arith), getD-take n file 3 0 (omega arith)) refl
 
-pub refusal-prefix : (k least : ℕ) (file : List ℕ) (n : ℕ) → 64004 < n → n ≤ length file → refusalOf k least (take n file) ≡ refusalOf k least file
+pub refusal-prefix : (k least : ℕ) (file : List ℕ) (n : ℕ) → 64004 < n → n ≤ length file → refusalOf k least (take n file) false ≡ refusalOf k least file false
 unfolding refusalOf
 refusal-prefix k least file n long inside =
     ap₂ (λ (head d : ℕ). numbered k least head d padded) (header-same file n (omega arith)) (length-take-le n file inside)

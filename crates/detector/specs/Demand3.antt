@@ -1,8 +1,8 @@
--- Demand 3 over runs. Two accepted images of one size, each in words or in a crop file, with equal records lent, that agree at every bit that the first run marked: both
--- runs report the same and leave the same records and marks, whichever the answer. And a stored bit is marked exactly when the steps, at the capacity lent, read it.
+-- Demand 3 over runs. Two accepted images of one size, each in words or in a crop file, with equal records lent, that agree at every bit that the first
+-- run marked: both runs report the same and leave the same records and marks, whichever the answer. And a stored bit is marked exactly when the steps, at
+-- the capacity lent, read it.
 -- A file's bits are those of its unpacked words. An entry has its part by one lemma, that its run is one of an accepted image. Assumes nothing.
 use Prim.Native.Nat.{ℕ, _/_, _<_}
-use native.Mathlib.Omega.{arith}
 use mathlib.Core.Bool.{true}
 use mathlib.Core.Logic.{_↔_}
 use mathlib.Core.Path.{_≡_, sym, ap, ap₂, _∙_, subst}
@@ -10,16 +10,15 @@ use mathlib.Core.List.{List, List·Memᴰ}
 use lib.ListN.{length, length-replicate}
 use Rattle.reads.specs.Reads.{trace}
 use Rattle.reads.specs.Bits.{bitAt, zeros}
-use Rattle.reads.specs.Runs.{valueOf, marksOf}
 use Rattle.reads.specs.Demand3.{marked-when-read, non-interference}
 use Rattle.bit_matrix.specs.declared.Shape.{Shape}
 use Rattle.bit_matrix.specs.Shape.{shapeOf, size}
 use Rattle.bit_matrix.specs.ShapeLaws.{image-kept}
-use Rattle.bit_matrix.specs.Pixels.{onesOf}
-use Rattle.crop.specs.Crop.{fileShape, width, height, wordsRefusal, fileRefusal, WordsAccepted, leastSide}
+use Rattle.marks.specs.Marks.{onesOf}
+use Rattle.crop_rows.specs.UnpackLaws.{length-unpacked, unpacked-clean}
+use Rattle.crop.specs.Crop.{fileShape, width, height, image, wordsRefusal, fileRefusal}
+use Rattle.crop.specs.CropClauses.{WordsAccepted}
 use Rattle.crop.specs.CropLaws.{words-accepted, file-ready}
-use Rattle.crop.specs.Unpack.{image}
-use Rattle.crop.specs.UnpackLaws.{length-unpacked, unpacked-clean}
 use Rattle.records.specs.Records.{capacityOf, laidOut}
 use Rattle.detector_search.specs.Search.{Result}
 use Rattle.detector.specs.Detector.{Run, run, reportOf, steps, acceptedRun, wordsRun, FileRun, fileRun}
@@ -36,7 +35,7 @@ pub words-run : (words : List ℕ) (w h : ℕ) (records marks : List ℕ) {left 
     → wordsRefusal words w h (length marks) (length records) ≡ 0 → Accepted (shapeOf w h) words records left
 unfolding wordsRun
 words-run words w h records marks ran passes =
-    let ok = words-accepted leastSide (omega arith) words w h marks records passes in
+    let ok = words-accepted words w h marks records passes in
     let same : length (zeros (size (shapeOf w h))) ≡ length marks =
     length-replicate (size (shapeOf w h)) 0 ∙ sym (ok .image .sized ∙ ok .image .stored) in
     record {
@@ -66,11 +65,13 @@ file-run file words records marks ran passes =
 
 module _ {shape : Shape} {words records : List ℕ} {first : Run} (accepted : Accepted shape words records first) where
   -- a stored bit is marked exactly when the steps read it
-  pub marked-when-steps-read : (i : ℕ) → i / 64 < length words → (bitAt (first .marks) i ≡ true) ↔ List·Memᴰ i (trace (steps shape (length records)) (bitAt words))
+  pub marked-when-steps-read : (i : ℕ) → i / 64 < length words
+      → (bitAt (first .marks) i ≡ true) ↔ List·Memᴰ i (trace (steps shape (length records)) (bitAt words))
   unfolding acceptedRun
   marked-when-steps-read i stored = rw (accepted .searched) (marked-when-read (steps shape (length records)) words i stored)
 
-  -- a second run, of another accepted image of one size with the first, that agrees with it at every bit marked there: its report, records and marks are the first one's
+  -- a second run, of another accepted image of one size with the first, that agrees with it at every bit marked there: its report, records and marks
+  -- are the first one's
   pub runs-agree : {shape₂ : Shape} {other : List ℕ} {second : Run} → Accepted shape₂ other records second → shape₂ ≡ shape
       → ((i : ℕ) → bitAt (first .marks) i ≡ true → bitAt other i ≡ bitAt words i) → second ≡ first
   unfolding acceptedRun
@@ -79,5 +80,6 @@ module _ {shape : Shape} {words records : List ℕ} {first : Run} (accepted : Ac
       let long : length other ≡ length words = beside .accepted .image .stored ∙ sym (accepted .accepted .image .stored) in
       let equal = non-interference (steps shape (length records)) words other long (λ i marked. agree i (rw (accepted .searched) marked)) in
       beside .searched
-      ∙ ap₂ (λ (v : Result) (m : List ℕ). run (reportOf (v .counts) (onesOf m)) (laidOut (capacityOf (length records)) (v .records) records) m) (equal .0) (equal .1)
+      ∙ ap₂ (λ (v : Result) (m : List ℕ). run (reportOf (v .counts) (onesOf m)) (laidOut (capacityOf (length records)) (v .records) records) m)
+      (equal .0) (equal .1)
       ∙ sym (accepted .searched)

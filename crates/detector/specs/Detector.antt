@@ -1,5 +1,5 @@
--- A run is one call of an entry that searches. What it reports and leaves in the lent buffers, for every input: document 01, "Crop file and answer numbers". The
--- search's definition is `searchAt`, the first true number is `wordsRefusal` or `fileRefusal`. Definitions only. Assumes nothing.
+-- A run is one call of an entry that searches. What it reports and leaves in the lent buffers, for every input: docs/MANUAL.md, "The crop file" and
+-- "Answers". The search's definition is `searchAt`, the first true number is `wordsRefusal` or `fileRefusal`. Definitions only. Assumes nothing.
 use Prim.Native.Nat.{ℕ}
 use mathlib.Core.Bool.{cond}
 use mathlib.Core.List.{List}
@@ -10,9 +10,8 @@ use Rattle.reads.specs.Bits.{zeros}
 use Rattle.reads.specs.Runs.{valueOf, marksOf}
 use Rattle.bit_matrix.specs.declared.Shape.{Shape}
 use Rattle.bit_matrix.specs.Shape.{shapeOf}
-use Rattle.bit_matrix.specs.Pixels.{onesOf}
-use Rattle.crop.specs.Crop.{fileShape, wordsRefusal, fileRefusal}
-use Rattle.crop.specs.Unpack.{image}
+use Rattle.marks.specs.Marks.{onesOf}
+use Rattle.crop.specs.Crop.{fileShape, image, wordsRefusal, fileRefusal}
 use Rattle.records.specs.Records.{capacityOf, laidOut}
 use Rattle.detector_verdict.specs.declared.Counts.{Counts}
 use Rattle.detector_search.specs.Search.{Result, searchAt}
@@ -35,10 +34,6 @@ reportOf c n = record { answer = c .answer; found = c .found; kept = c .kept; ma
 abbrev pub refusedReport : ℕ → Report
 refusedReport n = record { answer = n; found = 0; kept = 0; marked = 0 }
 
--- refused with a number: no buffer changes
-abbrev pub refusedRun : List ℕ → List ℕ → ℕ → Run
-refusedRun records marks n = run (refusedReport n) records marks
-
 -- the steps of a search of an image, with a record buffer of n words
 abbrev pub steps : Shape → ℕ → Reads Result
 steps shape n = searchAt shape (capacityOf n)
@@ -54,10 +49,10 @@ acceptedRun shape words records =
 unfoldable pub refusedOr : {A : Type 0} → ℕ → (ℕ → A) → A → A
 refusedOr number refused accepted = cond (eqb number 0) accepted (refused number)
 
--- an image in words
+-- an image in words: a refusal changes no buffer
 unfoldable pub wordsRun : List ℕ → ℕ → ℕ → List ℕ → List ℕ → Run
 wordsRun words w h records marks =
-    refusedOr (wordsRefusal words w h (length marks) (length records)) (refusedRun records marks) (acceptedRun (shapeOf w h) words records)
+    refusedOr (wordsRefusal words w h (length marks) (length records)) (λ n. run (refusedReport n) records marks) (acceptedRun (shapeOf w h) words records)
 
 -- the same with the words to unpack into
 pub record FileRun : Type 0 where
@@ -70,5 +65,5 @@ filed words r = record { words = words; run = r }
 -- a crop file: its words are unpacked when it is accepted
 unfoldable pub fileRun : List ℕ → List ℕ → List ℕ → List ℕ → FileRun
 fileRun file words records marks =
-    refusedOr (fileRefusal file (length words) (length marks) (length records)) (λ n. filed words (refusedRun records marks n))
+    refusedOr (fileRefusal file (length words) (length marks) (length records)) (λ n. filed words (run (refusedReport n) records marks))
     (filed (image file) (acceptedRun (fileShape file) (image file) records))

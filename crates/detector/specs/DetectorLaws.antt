@@ -1,31 +1,36 @@
 -- The entries' definitions by parts: an accepted image is searched, a refused one leaves all as it was; and no run keeps more records than there is room for
 -- (`file-few`). Assumes nothing.
-use Prim.Native.Nat.{ℕ, _*_, _≤_}
+use Prim.Native.Nat.{ℕ, _≤_}
 use native.Mathlib.Omega.{arith}
-use mathlib.Core.Bool.{Bool, true, false}
+use mathlib.Core.Bool.{Bool, true, false, _||_}
 use mathlib.Core.List.{List}
-use mathlib.Core.Path.{_≡_, refl, sym, ap, ap₂, _∙_}
+use mathlib.Core.Path.{_≡_, refl, sym, ap, ap₂, _∙_, subst⁻¹}
 use borrow.Author.Tests.{eqb-true, eq-eqb, ne-eqb}
 use lib.Dec.{eqb}
-use lib.ListN.{length}
+use lib.ListN.{length, take, replicate, length-replicate}
+use lib.Seq.{length-take-le}
 use Rattle.reads.specs.Bits.{bitAt, zeros}
 use Rattle.reads.specs.Runs.{valueOf, marksOf}
 use Rattle.bit_matrix.specs.declared.Shape.{Shape}
 use Rattle.bit_matrix.specs.Shape.{shapeOf, size, Limits, Image}
-use Rattle.bit_matrix.specs.Pixels.{onesOf}
-use Rattle.crop.specs.Chain.{chain-here, chain-next}
-use Rattle.crop.specs.Crop.{fileShape, wordsRefusal, fileRefusal, fileAnswer, Checks, FileAccepted, WordsAccepted, FileReady, leastSide}
+use Rattle.marks.specs.Marks.{onesOf}
+use Rattle.crop_sizes.specs.ChainLaws.{chain-here, chain-next}
+use Rattle.crop_sizes.specs.Sizes.{misfit}
+use Rattle.crop_rows.specs.Unpack.{unpacked}
+use Rattle.crop_rows.specs.UnpackClauses.{FileAccepted}
+use Rattle.crop_rows.specs.UnpackLaws.{length-unpacked}
+use Rattle.crop.specs.Crop.{fileShape, image, noRoom, wordsRefusal, fileRefusal}
+use Rattle.crop.specs.CropClauses.{Checks, orSix, WordsAccepted, FileReady}
 use Rattle.crop.specs.CropLaws.{words-accepted, file-ready, file-refusal-by, ready-shape, file-ready-by}
-use Rattle.crop.specs.Unpack.{unpacked, image}
-use Rattle.crop.specs.UnpackLaws.{length-unpacked}
 use Rattle.crop.specs.declared.Checked.{Checked}
 use Rattle.records.specs.Records.{capacityOf, laidOut}
-use Rattle.detector_candidates.specs.Candidates.{Room}
+use Rattle.detector_candidates.specs.CandidatesClauses.{Room}
 use Rattle.detector_verdict.specs.declared.Counts.{Counts}
 use Rattle.detector_verdict.specs.VerdictLaws.{counted-few}
-use Rattle.detector_search.specs.Search.{searchAt, Sought}
+use Rattle.detector_search.specs.Search.{searchAt}
+use Rattle.detector_search.specs.SearchClauses.{Sought}
 use Rattle.detector_search.specs.SearchLaws.{search-counted}
-use Rattle.detector.specs.Detector.{Run, run, reportOf, refusedReport, refusedRun, steps, acceptedRun, refusedOr, wordsRun, filed, fileRun}
+use Rattle.detector.specs.Detector.{Run, run, reportOf, refusedReport, steps, acceptedRun, refusedOr, wordsRun, filed, fileRun}
 use Rattle.detector.specs.declared.Report.{Report}
 
 -- ---- refused, or accepted
@@ -55,7 +60,9 @@ accepted-by shape {words} {marks} {cleared} {records} {marks′} {records′} {c
     let full : Sought (steps shape (length records)) (capacityOf (length records)) words cleared records c marks′ records′ = rw room at sought in
     let marked : marks′ ≡ marksOf (steps shape (length records)) words (zeros (length words)) =
     full .marked ∙ ap (marksOf (steps shape (length records)) words) (clear ∙ ap zeros (image .sized)) in
-    let report : r ≡ reportOf ((valueOf (steps shape (length records)) words) .counts) (onesOf (marksOf (steps shape (length records)) words (zeros (length words)))) =
+    let report : r
+    ≡ reportOf ((valueOf (steps shape (length records)) words) .counts)
+    (onesOf (marksOf (steps shape (length records)) words (zeros (length words)))) =
     made ∙ ap₂ reportOf (full .counts) (counted ∙ ap onesOf marked) in
     ap₂ (λ (x : Report) (l : List ℕ). run x l marks′) report (full .stored)
     ∙ ap (run _ (laidOut (capacityOf (length records)) ((valueOf (steps shape (length records)) words) .records) records)) marked
@@ -66,11 +73,11 @@ module _ (words : List ℕ) (w h : ℕ) (records marks : List ℕ) {number : ℕ
   pub words-refused : {r : Report} → (number ≡ 0 → ⊥) → r ≡ refusedReport number → run r records marks ≡ wordsRun words w h records marks
   unfolding wordsRun
   words-refused some made =
-      ap (λ (x : Report). run x records marks) made ∙ ap (refusedRun records marks) checked ∙ is-refused _ _ λ e. some (checked ∙ e)
+      ap (λ (x : Report). run x records marks) made ∙ ap (λ (n : ℕ). run (refusedReport n) records marks) checked ∙ is-refused _ _ λ e. some (checked ∙ e)
 
   module _ (none : number ≡ 0) {shape : Shape} (is : shape ≡ shapeOf w h) where
     ok : WordsAccepted (shapeOf w h) words marks records
-    ok = words-accepted leastSide (omega arith) words w h marks records (sym checked ∙ none)
+    ok = words-accepted words w h marks records (sym checked ∙ none)
 
     pub words-image : Image shape words marks
     words-image = rw is (ok .image)
@@ -85,14 +92,14 @@ module _ (words : List ℕ) (w h : ℕ) (records marks : List ℕ) {number : ℕ
 -- ---- a crop file
 
 module _ (file words records marks : List ℕ) {c : Checked} (checks : Checks file c) {number : ℕ}
-    (is : number ≡ fileAnswer (c .answer) (size (c .shape)) (length words) (length marks) (length records)) where
+    (is : number ≡ orSix (c .answer) (misfit (length words) (size (c .shape)) || noRoom (size (c .shape)) (length marks) (length records))) where
   number-is : number ≡ fileRefusal file (length words) (length marks) (length records)
   number-is = file-refusal-by checks (length words) (length marks) (length records) is
 
   pub file-refused : {r : Report} → (number ≡ 0 → ⊥) → r ≡ refusedReport number → filed words (run r records marks) ≡ fileRun file words records marks
   unfolding fileRun
   file-refused some made =
-      ap (λ (x : Report). filed words (run x records marks)) made ∙ ap (λ (n : ℕ). filed words (refusedRun records marks n)) number-is
+      ap (λ (x : Report). filed words (run x records marks)) made ∙ ap (λ (n : ℕ). filed words (run (refusedReport n) records marks)) number-is
       ∙ is-refused _ _ λ e. some (number-is ∙ e)
 
   module _ (none : number ≡ 0) where
@@ -138,3 +145,9 @@ file-few file words records marks = go (eqb number 0) refl
     go : (b : Bool) → eqb number 0 ≡ b → (fileRun file words records marks) .run .report .kept ≤ capacityOf (length records)
     go true e = rw e (accepted-few (image file) records (file-ready file words marks records (eqb-true _ _ e) .image .limits))
     go false e = rw e (omega arith)
+
+-- ---- buffers lent from arrays of zeros
+
+-- the length of a part of m zeros
+pub zeros-lent : (m n : ℕ) → n ≤ m → n ≡ length {A = ℕ} (take n (replicate m 0))
+zeros-lent m n h = sym (length-take-le n (replicate m 0) (subst⁻¹ (λ (k : ℕ). n ≤ k) (length-replicate {A = ℕ} m 0) h))

@@ -3,7 +3,7 @@ ghost use mathlib.Core.Path.{_≡_};
 ghost use Prim.Native.Nat.{_≤_};
 ghost use lib.ListN.{length};
 ghost use Rattle.bit_matrix.specs.Shape.{Image};
-ghost use Rattle.crop.specs.Crop.{Checks};
+ghost use Rattle.crop.specs.CropClauses.{Checks};
 ghost use Rattle.detector.specs.Detector.{run, reportOf, refusedReport, acceptedRun, wordsRun, filed, fileRun};
 use bit_matrix::Shape;
 use crop::Checked;
@@ -45,10 +45,10 @@ fn search_accepted(words: &[u64], shape: Shape, records: &mut [u32], marks: &mut
     requires { ⌜ Image shape (now words) (now marks) × (40 ≤ length (now records)) ⌝ }
     ensures { λ r. ⌜ run r (now (records .exit)) (now (marks .exit)) ≡ acceptedRun shape (now (words .entry)) (now (records .entry)) ⌝ }
 {
-    bit_matrix::clear(marks);
+    marks::clear(marks);
     let capacity = records::capacity_of(records.len());
     let counts = detector_search::search(words, marks, records, shape, capacity);
-    let marked = bit_matrix::count_marks(marks);
+    let marked = marks::count_marks(marks);
     report_of(counts, marked)
 }
 
@@ -60,13 +60,14 @@ pub fn search_words(
     records: &mut [u32],
     marks: &mut [u64],
 ) -> Report
-    ensures { λ r. ⌜ run r (now (records .exit)) (now (marks .exit)) ≡ wordsRun (now (words .entry)) width height (now (records .entry)) (now (marks .entry)) ⌝ }
+    ensures { λ r. ⌜ run r (now (records .exit)) (now (marks .exit))
+        ≡ wordsRun (now (words .entry)) width height (now (records .entry)) (now (marks .entry)) ⌝ }
 {
     let answer = crop::words_refusal(words, width, height, marks.len(), records.len());
     if answer != 0 {
         return refused(answer);
     }
-    search_accepted(words, crop::shape_of(width, height), records, marks)
+    search_accepted(words, crop_sizes::shape_of(width, height), records, marks)
 }
 
 // The search of a crop file that was checked, with words to unpack it into: what `search_file` and the program have in common. It is no entry.
@@ -78,20 +79,22 @@ pub fn search_checked(
     marks: &mut [u64],
 ) -> Report
     requires { ⌜ Checks (now file) checked ⌝ }
-    ensures { λ r. ⌜ filed (now (words .exit)) (run r (now (records .exit)) (now (marks .exit))) ≡ fileRun (now (file .entry)) (now (words .entry)) (now (records .entry)) (now (marks .entry)) ⌝ }
+    ensures { λ r. ⌜ filed (now (words .exit)) (run r (now (records .exit)) (now (marks .exit)))
+        ≡ fileRun (now (file .entry)) (now (words .entry)) (now (records .entry)) (now (marks .entry)) ⌝ }
 {
     let answer = crop::file_refusal(checked, words.len(), marks.len(), records.len());
     if answer != 0 {
         return refused(answer);
     }
     let shape = checked.shape;
-    crop::unpack_rows(file, shape, words);
+    crop_rows::unpack_rows(file, shape, words);
     search_accepted(words, shape, records, marks)
 }
 
 // The search of a crop file, with words to unpack it into.
 pub fn search_file(file: &[u8], words: &mut [u64], records: &mut [u32], marks: &mut [u64]) -> Report
-    ensures { λ r. ⌜ filed (now (words .exit)) (run r (now (records .exit)) (now (marks .exit))) ≡ fileRun (now (file .entry)) (now (words .entry)) (now (records .entry)) (now (marks .entry)) ⌝ }
+    ensures { λ r. ⌜ filed (now (words .exit)) (run r (now (records .exit)) (now (marks .exit)))
+        ≡ fileRun (now (file .entry)) (now (words .entry)) (now (records .entry)) (now (marks .entry)) ⌝ }
 {
     let checked = crop::check_file(file);
     search_checked(file, checked, words, records, marks)

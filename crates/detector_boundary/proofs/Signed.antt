@@ -12,7 +12,8 @@ use lib.Signed.{mag, ltZ, nonNeg, quotZ}
 use mir.Syntax.{w32}
 use mir.Val.{toZ, ofZ, Fits, SFits}
 use mir.ValLaws.{toZ-ofZ, toZ-pos}
-use Rattle.detector_boundary.specs.Boundary.{clamped, Range}
+use Rattle.detector_boundary.specs.Boundary.{clamped}
+use Rattle.detector_boundary.specs.BoundaryClauses.{Range}
 
 abbrev pub read : ℤ → ℤ
 read z = toZ w32 (ofZ w32 z)

@@ -1,32 +1,18 @@
 -- `calculate_simple_boundary` of detector.rs. A coordinate less a shift is an integer, for a clamp takes numbers below zero too. Definitions only.
 -- Assumes nothing.
-use Prim.Native.Nat.{ℕ, _-_, _/_, _≤_, min, max}
-use lib.Dec.{T}
-use lib.IntN.{ℤ, pos, negsuc, natAbs, _+ℤ_, _-ℤ_}
-use lib.Signed.{nonNeg}
+use Prim.Native.Nat.{ℕ, _-_, _/_, min, max}
+use lib.IntN.{ℤ, pos, negsuc, _+ℤ_, _-ℤ_}
 use lib.Ieee.{Float, binary32, ofBits, ofInt, add, sub, mul, div, toSigned}
 use Rattle.bit_matrix.specs.declared.Shape.{Shape}
-use Rattle.bit_matrix.specs.Shape.{Limits, Inside}
 use Rattle.rxing_result_point.specs.declared.PointU.{PointU}
-use Rattle.detector_boundary.specs.Size.{plainSize, scaledSize}
-use Rattle.detector_boundary.specs.declared.Size.{Size}
+use Rattle.detector_size.specs.Size.{plainSize, scaledSize}
+use Rattle.detector_size.specs.declared.Size.{Size}
 use Rattle.detector_boundary.specs.declared.Boundary.{Boundary}
-
--- a centre in an image that is not refused
-pub record Centered (shape : Shape) (center : PointU) : Type 0 where
-  pub limits : Limits shape
-  pub inside : Inside shape (center .x) (center .y)
 
 -- Rust's `clamp`, between two naturals
 abbrev pub clamped : ℤ → ℕ → ℕ → ℕ
 clamped (pos n) low high = max low (min n high)
 clamped (negsuc n) low high = low
-
--- the two ends of a clamp: naturals, in order
-pub record Range (low high : ℤ) : Type 0 where
-  pub low-natural : T (nonNeg low)
-  pub high-natural : T (nonNeg high)
-  pub ordered : natAbs low ≤ natAbs high
 
 -- half of a symbol's width, and 0.03 of the width, in f32
 abbrev pub halfWidth : ℕ → Float

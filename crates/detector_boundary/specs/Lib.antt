@@ -1,7 +1,7 @@
--- `Size` and `Boundary` have the definitions. `SizeLaws` and `ShiftLaws` say how large a size and a shift are, `InImage` where the
--- boundaries lie.
-pub mod Size
-pub mod SizeLaws
+-- `Boundary` has the definitions, `BoundaryClauses` what the clauses of functions name. `ShiftLaws` says how large a shift is, `InImageLaws` where
+-- the boundaries
+-- lie.
 pub mod Boundary
+pub mod BoundaryClauses
 pub mod ShiftLaws
-pub mod InImage
+pub mod InImageLaws

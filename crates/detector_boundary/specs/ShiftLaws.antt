@@ -7,7 +7,7 @@ use lib.Dec.{lit≤, lit<}
 use lib.IntN.{ℤ, pos}
 use lib.Ieee.{Float, binary32, ofBits, ofInt, add, sub, mul, div, toUnsigned, toSigned}
 use lib.Ieee.Positive.{num, den}
-use Rattle.ieee.specs.Between.{Between, whole-between, mul-between, div-between, add-between, sub-between, cast-between, toSigned-plain}
+use Rattle.ieee.specs.BetweenLaws.{Between, whole-between, mul-between, div-between, add-between, sub-between, cast-between, toSigned-plain}
 use Rattle.detector_boundary.specs.Boundary.{halfWidth, adjustment, leftShift, rightShift}
 
 -- an integer that is a natural, from `low` to `high`

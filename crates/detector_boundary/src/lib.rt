@@ -1,19 +1,14 @@
-// The size of a symbol guessed from the radius of its bull's-eye, and the symbol's boundaries about a centre:
-// `guess_barcode_size_general`, `guess_barcode_size` and `calculate_simple_boundary` of detector.rs.
+// A symbol's boundaries about a centre: `calculate_simple_boundary` of detector.rs.
 use bit_matrix::Shape;
+use detector_size::Size;
 use rxing_result_point::PointU;
 ghost use mathlib.Core.Path.{_≡_};
 ghost use Prim.Native.Nat.{_<_, _≤_};
 ghost use lib.Dec.{T};
 ghost use lib.IntN.{natAbs};
-ghost use Rattle.detector_boundary.specs.Size.{guessedSize, plainSize, isScale};
-ghost use Rattle.detector_boundary.specs.Boundary.{clamped, boundaryOf, plainBoundary, scaledBoundary, Centered, Range};
-
-// A symbol's width and height in pixels.
-pub struct Size {
-    pub width: u32,
-    pub height: u32,
-}
+ghost use Rattle.detector_size.specs.SizeClauses.{isScale};
+ghost use Rattle.detector_boundary.specs.Boundary.{clamped, boundaryOf, plainBoundary, scaledBoundary};
+ghost use Rattle.detector_boundary.specs.BoundaryClauses.{Centered, Range};
 
 // The four boundaries of a symbol, in the source's words: top is the larger row.
 pub struct Boundary {
@@ -21,31 +16,6 @@ pub struct Boundary {
     pub right: u32,
     pub top: u32,
     pub bottom: u32,
-}
-
-pub fn guess_barcode_size_general(
-    radius: u32,
-    height_adjust_percent: f64,
-    circle_area_percent: f64,
-    height_final_adjust_percent: f64,
-) -> Size
-    requires { ⌜ radius < 65536 ⌝ }
-    ensures { λ r. ⌜ r ≡ guessedSize radius «height_adjust_percent» «circle_area_percent» «height_final_adjust_percent» ⌝ }
-{
-    let circle_area = 3.141592653589793 * ((radius * radius) as f64);
-    let ideal_symbol_area = circle_area / circle_area_percent / (1.0 - height_adjust_percent);
-    let ideal_symbol_side = ieee::sqrt_f64(ideal_symbol_area);
-    Size {
-        width: ieee::floor_f64_to_u32(ideal_symbol_side),
-        height: ieee::floor_f64_to_u32(ideal_symbol_side * height_final_adjust_percent),
-    }
-}
-
-pub fn guess_barcode_size(radius: u32) -> Size
-    requires { ⌜ radius < 65536 ⌝ }
-    ensures { λ r. ⌜ r ≡ plainSize radius ⌝ }
-{
-    guess_barcode_size_general(radius, 0.03, 0.066, 1.0)
 }
 
 // Rust's `z.clamp(low, high) as u32`.
@@ -92,7 +62,7 @@ pub fn plain_boundary(shape: Shape, center: PointU, radius: u32) -> Boundary
     requires { ⌜ Centered shape center × (radius < 2048) ⌝ }
     ensures { λ r. ⌜ r ≡ plainBoundary shape center radius ⌝ }
 {
-    calculate_simple_boundary(shape, center, guess_barcode_size(radius))
+    calculate_simple_boundary(shape, center, detector_size::guess_barcode_size(radius))
 }
 
 // The boundaries of a scale.
@@ -103,6 +73,6 @@ pub fn scaled_boundary(shape: Shape, center: PointU, radius: u32, scale: f64) ->
     calculate_simple_boundary(
         shape,
         center,
-        guess_barcode_size_general(radius, 0.05, scale, 0.95),
+        detector_size::guess_barcode_size_general(radius, 0.05, scale, 0.95),
     )
 }

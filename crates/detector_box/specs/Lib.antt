@@ -1,3 +1,3 @@
--- `Boxes` has the definitions, `BoxesLaws` the words of each outcome and what holds of every symbol.
+-- `Boxes` has the definitions, `BoxesLaws` the words of each outcome.
 pub mod Boxes
 pub mod BoxesLaws

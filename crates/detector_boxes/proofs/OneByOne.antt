@@ -7,7 +7,8 @@ use lib.Seq.{append-snoc}
 use Rattle.reads.specs.Reads.{Reads, done, _>>=_, value, trace}
 use Rattle.reads.specs.ReadsLaws.{value-bind, trace-bind}
 use Rattle.reads.specs.Bits.{bitAt, markAll}
-use Rattle.reads.specs.Runs.{valueOf, marksOf, Ran}
+use Rattle.reads.specs.Runs.{valueOf, marksOf}
+use Rattle.reads.specs.RunsClauses.{Ran}
 use Rattle.bit_matrix.specs.declared.Shape.{Shape}
 use Rattle.records.specs.Records.{Record}
 use Rattle.detector_boxes.specs.Boxing.{boxed, boxedAll}
@@ -41,7 +42,8 @@ module _ (shape : Shape) where
       (traces (first ++ b ∷ []) rs image ∙ sym (trace-bind (all rs) _ image ∙ append-nil (trace (all rs) image)))
       ∙ sym (trace-bind (boxed shape r) _ image)
 
-  pub all-at-once : {words marks marks′ : List ℕ} (rs : List Record) {bs : List Record} → Ran (boxedFrom [] rs) words marks bs marks′ → Ran (all rs) words marks bs marks′
+  pub all-at-once : {words marks marks′ : List ℕ} (rs : List Record) {bs : List Record} → Ran (boxedFrom [] rs) words marks bs marks′
+      → Ran (all rs) words marks bs marks′
   unfolding valueOf marksOf
   all-at-once {words} {marks} rs ran = record {
     result = ran .result ∙ values [] rs (bitAt words);

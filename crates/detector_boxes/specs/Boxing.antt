@@ -1,16 +1,13 @@
 -- The box and turn of each kept record, one after another, as a reading program. Definitions only. Assumes nothing.
-use Prim.Native.Nat.{ℕ, _*_, _≤_, _<_}
-use mathlib.Core.Path.{_≡_}
 use mathlib.Core.List.{List, [], _∷_}
-use lib.ListN.{length, getD}
+use lib.ListN.{getD}
 use Rattle.reads.specs.Reads.{Reads, done, _>>=_}
-use Rattle.reads.specs.Runs.{valueOf, marksOf}
 use Rattle.bit_matrix.specs.declared.Shape.{Shape}
-use Rattle.bit_matrix.specs.Shape.{Inside}
 use Rattle.records.specs.Fields as field
-use Rattle.records.specs.Records.{Record, rows, Became, Each}
+use Rattle.records.specs.Records.{Record}
 use Rattle.detector_circle.specs.declared.Circle.{Circle}
-use Rattle.detector_box.specs.Boxes.{symbolAt, withSymbol}
+use Rattle.detector_box.specs.Boxes.{symbolAt}
+use Rattle.detector_symbol.specs.Symbols.{withSymbol}
 
 -- a record's centre as found, and its radius
 abbrev pub circleOf : Record → Circle
@@ -30,19 +27,3 @@ module _ (shape : Shape) where
     b ← boxed r
     bs ← boxedAll rs
     done (b ∷ bs)
-
--- what a kept record must be for its box: its centre lies inside the image, and its radius is from 6 to 2,047
-pub record Boxable (shape : Shape) (r : Record) : Type 0 where
-  pub inside : Inside shape (getD r field.centerX 0) (getD r field.centerY 0)
-  pub least : 6 ≤ getD r field.radius 0
-  pub most : getD r field.radius 0 < 2048
-
--- the first n records of a buffer are such records
-pub record AllBoxable (shape : Shape) (n : ℕ) (records : List ℕ) : Type 0 where
-  pub held : 40 * n ≤ length records
-  pub each : Each (Boxable shape) (rows n records)
-
--- the steps p, run over the image's words, give the records that the first n have become, and take the marks from `marks` to `marks′`
-pub record Boxed (p : Reads (List Record)) (n : ℕ) (words marks records marks′ records′ : List ℕ) : Type 0 where
-  pub stored : Became n records (valueOf p words) records′
-  pub marked : marks′ ≡ marksOf p words marks

@@ -3,8 +3,7 @@ use Prim.Native.Nat.{suc}
 use mathlib.Core.List.{List, [], _∷_}
 use mathlib.Core.Path.{_≡_, refl, ap}
 use lib.ListN.{length}
-use Rattle.reads.specs.Reads.{Always}
-use Rattle.reads.specs.ReadsLaws.{always-done, always-bind, always-after}
+use Rattle.reads.specs.ReadsLaws.{Always, always-done, always-bind, always-after}
 use Rattle.bit_matrix.specs.declared.Shape.{Shape}
 use Rattle.records.specs.Records.{Record}
 use Rattle.detector_boxes.specs.Boxing.{boxedAll}

@@ -1,3 +1,4 @@
--- `Boxing` has the definition and what `box_kept` leaves in the record buffer, `BoxingLaws` that no record is lost.
+-- `Boxing` has the definition, `BoxingClauses` what the clauses of functions name, `BoxingLaws` that no record is lost.
 pub mod Boxing
+pub mod BoxingClauses
 pub mod BoxingLaws

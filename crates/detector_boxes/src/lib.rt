@@ -1,11 +1,12 @@
 // The box and turn of each kept record, in rank order: `box_symbol` of detector.rs for each circle that `detect` keeps.
 ghost use lib.ListN.{length};
-ghost use Rattle.reads.specs.Runs.{Ran};
+ghost use Rattle.reads.specs.RunsClauses.{Ran};
 ghost use Rattle.sines.specs.Sines.{sines};
 ghost use mathlib.Core.Path.{_≡_};
 ghost use Rattle.bit_matrix.specs.Shape.{Image};
 ghost use Rattle.records.specs.Records.{rows};
-ghost use Rattle.detector_boxes.specs.Boxing.{boxed, boxedAll, Boxable, AllBoxable, Boxed};
+ghost use Rattle.detector_boxes.specs.Boxing.{boxed, boxedAll};
+ghost use Rattle.detector_boxes.specs.BoxingClauses.{Boxable, AllBoxable, Boxed};
 use bit_matrix::Shape;
 use detector_circle::Circle;
 use rxing_result_point::PointU;
@@ -28,7 +29,7 @@ fn box_record(
     let circle = Circle { center, radius };
     let symbol = detector_box::box_symbol(words, marks, shape, circle, table);
     let mut out = fields;
-    detector_box::symbol_fields(&mut out, symbol);
+    detector_symbol::symbol_fields(&mut out, symbol);
     out
 }
 
@@ -42,7 +43,8 @@ fn box_records(
     table: &[f32; 360],
 )
     requires { ⌜ Image shape (now words) (now marks) × AllBoxable shape kept (now records) × (now table ≡ sines) ⌝ }
-    ensures { λ _. ⌜ Boxed (boxedAll shape (rows kept (now (records .entry)))) kept (now (words .entry)) (now (marks .entry)) (now (records .entry)) (now (marks .exit)) (now (records .exit)) ⌝ }
+    ensures { λ _. ⌜ Boxed (boxedAll shape (rows kept (now (records .entry)))) kept
+        (now (words .entry)) (now (marks .entry)) (now (records .entry)) (now (marks .exit)) (now (records .exit)) ⌝ }
 {
     let mut i = 0usize;
     while i < kept {
@@ -56,7 +58,8 @@ fn box_records(
 // The table of sines is made once, and lent.
 pub fn box_kept(words: &[u64], marks: &mut [u64], records: &mut [u32], shape: Shape, kept: usize)
     requires { ⌜ Image shape (now words) (now marks) × AllBoxable shape kept (now records) ⌝ }
-    ensures { λ _. ⌜ Boxed (boxedAll shape (rows kept (now (records .entry)))) kept (now (words .entry)) (now (marks .entry)) (now (records .entry)) (now (marks .exit)) (now (records .exit)) ⌝ }
+    ensures { λ _. ⌜ Boxed (boxedAll shape (rows kept (now (records .entry)))) kept
+        (now (words .entry)) (now (marks .entry)) (now (records .entry)) (now (marks .exit)) (now (records .exit)) ⌝ }
 {
     let table = sines::table();
     box_records(words, marks, records, shape, kept, &table);

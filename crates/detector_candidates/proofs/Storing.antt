@@ -7,10 +7,12 @@ use mathlib.Core.Bool.{true, false}
 use mathlib.Core.List.{List, [], _∷_, _++_}
 use lib.ListN.{length, take, drop, set, length-append}
 use lib.Seq.{take-all, take-at}
-use Rattle.records.specs.Records.{Record, rows, put, Became}
+use Rattle.records.specs.Records.{Record, rows}
+use Rattle.records.specs.RecordsClauses.{put, Became}
 use Rattle.records.specs.RecordsLaws.{length-rows, drop-later, replaced}
-use Rattle.detector_candidates.specs.Candidates.{after, Room, Stored}
-use Rattle.detector_candidates.specs.declared.Searched.{Searched}
+use Rattle.detector_candidates.specs.Candidates.{after}
+use Rattle.detector_candidates.specs.CandidatesClauses.{Room, Stored}
+use Rattle.detector_candidate.specs.declared.Searched.{Searched}
 
 -- the last record replaced
 set-last : (n : ℕ) (l : List ℕ) (r : Record) → set (rows (n + 1) l) n r ≡ rows n l ++ r ∷ []

@@ -11,13 +11,12 @@ use Rattle.reads.specs.Reads.{_>>=_, value, trace}
 use Rattle.reads.specs.Bits.{testBit, bitAt}
 use Rattle.reads.specs.Runs.{valueOf}
 use Rattle.sines.specs.Sines.{sineOf}
-use Rattle.sines.specs.Rules.{scaled}
 use Rattle.bit_matrix.specs.declared.Shape.{Shape}
 use Rattle.bit_matrix.specs.Shape.{shapeOf}
 use Rattle.bit_matrix.specs.Pixels.{pixel}
 use Rattle.rxing_result_point.specs.declared.PointU.{PointU}
 use Rattle.rxing_result_point.specs.Points.{turned}
-use Rattle.detector_walks.specs.Walks.{whitePixel, stepsOf, leftFrom, rightFrom, walk, findEnds}
+use Rattle.detector_walks.specs.Walks.{whitePixel, leftFrom, rightFrom, walk, findWidthAtDegree}
 use Rattle.detector_center.specs.Center.{findCenter, corrected}
 
 -- 33 columns and rows of one word each
@@ -33,5 +32,6 @@ center = record { x = 16; y = 16 }
 
 pub black-center : (valueOf (corrected smallest center) blackCenter ≡ record { x = 0; y = 0 })
     × (trace (corrected smallest center) (bitAt blackCenter) ≡ 1040 ∷ 1040 ∷ 1040 ∷ 1039 ∷ [])
-unfolding valueOf value trace _>>=_ testBit bitAt pixel whitePixel stepsOf leftFrom rightFrom walk findEnds findCenter corrected turned sineOf scaled ofBits ofInt add sub mul div toUnsigned abs floor roundTiesToAway
+unfolding valueOf value trace _>>=_ testBit bitAt pixel whitePixel leftFrom rightFrom walk findWidthAtDegree findCenter corrected
+    turned sineOf ofBits ofInt add sub mul div toUnsigned abs floor roundTiesToAway
 black-center = (refl, refl)

@@ -4,8 +4,8 @@ use bit_matrix::Shape;
 use rxing_result_point::Point;
 use rxing_result_point::PointU;
 ghost use mathlib.Core.Path.{_≡_};
-ghost use Rattle.reads.specs.Runs.{Ran};
-ghost use Rattle.detector_walks.specs.Walks.{Lent};
+ghost use Rattle.reads.specs.RunsClauses.{Ran};
+ghost use Rattle.detector_walks.specs.WalksClauses.{Lent};
 ghost use Rattle.detector_center.specs.Center.{findCenter, corrected};
 
 // The centre of the circle through three points. The quotients are NaN or infinite where no circle goes through them.

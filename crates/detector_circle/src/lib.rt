@@ -1,8 +1,8 @@
 // `calculate_high_accuracy_center` of detector.rs: the corrected centre, written into a circle that is lent.
 use bit_matrix::Shape;
 use rxing_result_point::PointU;
-ghost use Rattle.reads.specs.Runs.{Ran};
-ghost use Rattle.detector_walks.specs.Walks.{Lent};
+ghost use Rattle.reads.specs.RunsClauses.{Ran};
+ghost use Rattle.detector_walks.specs.WalksClauses.{Lent};
 ghost use Rattle.detector_circle.specs.Circle.{correctedCircle};
 
 // What the centre's correction has of the source's circle; the image is lent beside it, and the runs have no part in it.

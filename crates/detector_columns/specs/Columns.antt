@@ -1,5 +1,5 @@
--- The vertical check of detector.rs (document 01, "Candidates"), as reading programs.
--- `valid` is the test of the widths, the whole-number one or the source's in f32 (detector_widths/specs/Widths.antt). Definitions only. Assumes nothing.
+-- The vertical check of detector.rs (docs/MANUAL.md, "How a search decides"), as reading programs.
+-- `valid` is the test of the widths, the whole-number one or the source's in f32 (detector_widths/specs/). Definitions only. Assumes nothing.
 use Prim.Native.Nat.{ℕ, zero, suc, _+_, _-_}
 use mathlib.Core.Bool.{Bool, true, false, cond, Bool·beq}
 use mathlib.Core.List.{List, [], _∷_}
@@ -9,7 +9,7 @@ use Rattle.reads.specs.Reads.{Reads, done, _>>=_}
 use Rattle.bit_matrix.specs.declared.Shape.{Shape}
 use Rattle.bit_matrix.specs.Pixels.{pixel}
 use Rattle.detector_widths.specs.Buckets.{bump}
-use Rattle.detector_widths.specs.Widths.{at, validWidths}
+use Rattle.detector_widths.specs.Widths.{at}
 use Rattle.detector_columns.specs.declared.Verified.{Verified}
 
 -- ---- `get_column_vector`
@@ -68,10 +68,3 @@ module _ (valid : List ℕ → Bool) (shape : Shape) (row : ℕ) where
     cond (here .good) (done here) (do
       right ← tryColumnBy (column + 1)
       cond (right .good) (done right) (tryColumnBy (column - 1)))
-
--- ---- with the test in whole numbers; with the source's in f32 results and reads are the same: `same-vertical-f32`, ColumnsLaws.antt
-abbrev pub tryColumn : Shape → ℕ → ℕ → Reads Verified
-tryColumn = tryColumnBy validWidths
-
-abbrev pub verifyBullseyeVertical : Shape → ℕ → ℕ → Reads Verified
-verifyBullseyeVertical = verifyBullseyeVerticalBy validWidths

@@ -10,14 +10,14 @@ use borrow.Author.Tests.{lt-ltb, le-ltb}
 use lib.Dec.{ltb}
 use lib.ListN.{length, set, replicate}
 use lib.Seq.{getD-set-same, getD-set-other, set-out}
-use Rattle.reads.specs.Reads.{Always, Same}
-use Rattle.reads.specs.ReadsLaws.{always-done, always-bind, always-after, always-cond, same-refl, same-bind, same-after, same-cond}
+use Rattle.reads.specs.ReadsLaws.{Always, Same, always-done, always-bind, always-after, always-cond, same-refl, same-bind, same-after, same-cond}
 use Rattle.reads.specs.BitsLaws.{getD-zeros}
 use Rattle.bit_matrix.specs.declared.Shape.{Shape}
 use Rattle.bit_matrix.specs.Pixels.{pixel}
 use Rattle.detector_widths.specs.Buckets.{bump}
-use Rattle.detector_widths.specs.Widths.{at, evenTotal, oddTotal, validWidths, validWidthsF32}
-use Rattle.detector_widths.specs.SameWidths.{same-widths}
+use Rattle.detector_widths.specs.Widths.{at, evenTotal, oddTotal, validWidths}
+use Rattle.detector_widths.specs.WidthsF32.{validWidthsF32}
+use Rattle.detector_widths.specs.SameWidthsLaws.{same-widths}
 use Rattle.detector_columns.specs.Columns.{
   pointerAfter,
   rowsLeft,
@@ -26,10 +26,9 @@ use Rattle.detector_columns.specs.Columns.{
   potentialBullseyeArray,
   potentialBullseye,
   tryColumnBy,
-  tryColumn,
   verifyBullseyeVerticalBy,
-  verifyBullseyeVertical,
 }
+use Rattle.detector_columns.specs.ColumnsClauses.{tryColumn, verifyBullseyeVertical}
 use Rattle.detector_columns.specs.declared.Verified.{Verified}
 
 -- no run is longer than `most`

@@ -3,9 +3,10 @@ use bit_matrix::Shape;
 ghost use mathlib.Core.Path.{_≡_};
 ghost use Prim.Native.Nat.{_+_, _^_, _≤_, _<_};
 ghost use lib.ListN.{getD};
-ghost use Rattle.reads.specs.Runs.{Ran};
+ghost use Rattle.reads.specs.RunsClauses.{Ran};
 ghost use Rattle.bit_matrix.specs.Shape.{Image};
-ghost use Rattle.detector_columns.specs.Columns.{pointerAfter, rowAfter, columnVector, potentialBullseyeArray, tryColumn, verifyBullseyeVertical};
+ghost use Rattle.detector_columns.specs.Columns.{pointerAfter, rowAfter, columnVector, potentialBullseyeArray};
+ghost use Rattle.detector_columns.specs.ColumnsClauses.{tryColumn, verifyBullseyeVertical};
 
 // What the vertical check answers: whether a column passed, and the eleven runs of the last one tried.
 pub struct Verified {

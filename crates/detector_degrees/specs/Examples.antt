@@ -8,14 +8,15 @@ use Rattle.reads.specs.Bits.{testBit, bitAt, range}
 use Rattle.reads.specs.Runs.{valueOf}
 use Rattle.bit_matrix.specs.Shape.{shapeOf}
 use Rattle.bit_matrix.specs.Pixels.{pixel, tryGet}
-use Rattle.bit_matrix.specs.Area.{countBlack, tryGetArea}
+use Rattle.bit_matrix_area.specs.Area.{countBlack, tryGetArea}
 use Rattle.ieee.specs.Sign.{abs}
 use Rattle.sines.specs.Sines.{sines, sineOf, angleOf}
 use Rattle.rxing_result_point.specs.declared.PointU.{PointU}
 use Rattle.rxing_result_point.specs.Points.{turned}
-use Rattle.detector_degrees.specs.Degrees.{pointOf, rightColour, lookAt, pointsFrom, testDegree, degreesFrom, tryDegrees}
-use Rattle.detector_degrees.specs.declared.Degree.{Degree}
-use Rattle.detector_degrees.specs.declared.Degree.the-variants.{Found, WrongColour, Outside}
+use Rattle.detector_colours.specs.Colours.{rightColour, pointsFrom, testDegree}
+use Rattle.detector_degrees.specs.Degrees.{pointOf, degreesFrom, lookAt, tryDegrees}
+use Rattle.detector_colours.specs.declared.Degree.{Degree}
+use Rattle.detector_colours.specs.declared.Degree.the-variants.{Found, WrongColour, Outside}
 use Rattle.detector_degrees.specs.declared.Rotation.{Rotation}
 use Rattle.detector_degrees.specs.declared.Rotation.the-variants as rotation
 
@@ -42,12 +43,13 @@ groupsOf b w = (b ∷ b ∷ b ∷ []) ∷ (w ∷ w ∷ w ∷ []) ∷ (b ∷ w �
 
 -- at degree 0
 abbrev testAt : List (List PointU) → Degree
-testAt groups = valueOf (testDegree (shapeOf 33 33) center groups (angleOf 0)) words
+testAt groups = valueOf (testDegree (lookAt (shapeOf 33 33) center groups (angleOf 0))) words
 
 -- each point has its colour, or the colours are exchanged; the first point that is wrong or outside decides
 pub near-test : (testAt (groupsOf black white) ≡ Found) × (testAt (groupsOf white black) ≡ WrongColour)
     × (testAt (groupsOf black outside) ≡ Outside) × (testAt (groupsOf white outside) ≡ WrongColour)
-unfolding valueOf value _>>=_ testBit bitAt range flatMap pixel tryGet countBlack tryGetArea ofBits ofInt add sub mul toUnsigned turned abs sines sineOf pointOf rightColour lookAt pointsFrom testDegree
+unfolding valueOf value _>>=_ testBit bitAt range flatMap pixel tryGet countBlack tryGetArea
+    ofBits ofInt add sub mul toUnsigned turned abs sines sineOf pointOf rightColour lookAt pointsFrom testDegree
 near-test = (refl, refl, refl, refl)
 
 abbrev tryAll : List (List PointU) → Rotation
@@ -55,5 +57,6 @@ tryAll groups = valueOf (tryDegrees (shapeOf 33 33) center groups) words
 
 -- a point that lies in the square when it is turned by 12 degrees, and at no degree before; a point outside at degree 0
 pub near-turn : (tryAll (groupsOf (record { x = 8; y = 12 }) white) ≡ rotation.Found 12) × (tryAll (groupsOf outside white) ≡ rotation.None)
-unfolding valueOf value _>>=_ testBit bitAt range flatMap pixel tryGet countBlack tryGetArea ofBits ofInt add sub mul toUnsigned turned abs sines sineOf pointOf rightColour lookAt pointsFrom testDegree degreesFrom tryDegrees
+unfolding valueOf value _>>=_ testBit bitAt range flatMap pixel tryGet countBlack tryGetArea
+    ofBits ofInt add sub mul toUnsigned turned abs sines sineOf pointOf rightColour lookAt pointsFrom testDegree degreesFrom tryDegrees
 near-turn = (refl, refl)

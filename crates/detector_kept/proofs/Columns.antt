@@ -7,13 +7,13 @@ use mathlib.Core.List.{List, []}
 use lib.ListN.{length, getD, drop, length-map, List·getD-map, drop-of-length-le}
 use lib.Seq.{drop-cons}
 use lib.Ieee.{Float, binary64, ofBits, div, toUnsigned}
-use Rattle.ieee.specs.Sqrt.{sqrt}
+use Rattle.ieee_sqrt.specs.Sqrt.{sqrt}
 use Rattle.records.specs.Records.{Record, rows}
 use Rattle.records.specs.RecordsLaws.{length-rows, get-row, get-word, each-at}
-use Rattle.detector_rank.specs.Rank.{Small}
+use Rattle.detector_variances.specs.VariancesClauses.{Small}
 use Rattle.reads.specs.Total.{total}
 use Rattle.detector_kept.specs.Spread.{fieldsAt, real64, mean, withSquare, squares, deviation, spread}
-use Rattle.detector_kept.specs.Kept.{Candidates}
+use Rattle.detector_kept.specs.KeptClauses.{Candidates}
 use Rattle.detector_kept.specs.declared.Spread.{Spread}
 
 module _ (n : ℕ) (l : List ℕ) (k : ℕ) where
@@ -118,4 +118,10 @@ pub spread-is : (rs : List Record) (a b d e : ℕ) → a ≡ toUnsigned 32 (devi
 unfolding spread
 spread-is rs a b d e ea eb ed ee =
     ap₂ (λ (x y : ℕ). record { «dev_x» = x; «dev_y» = y; «mean_x» = d; «mean_y» = e }) ea eb
-    ∙ ap₂ (λ (x y : ℕ). record { «dev_x» = toUnsigned 32 (deviation (fieldsAt 0 rs)); «dev_y» = toUnsigned 32 (deviation (fieldsAt 1 rs)); «mean_x» = x; «mean_y» = y }) ed ee
+    ∙ ap₂ (λ (x y : ℕ). record {
+      «dev_x» = toUnsigned 32 (deviation (fieldsAt 0 rs));
+      «dev_y» = toUnsigned 32
+          (deviation (fieldsAt 1 rs));
+      «mean_x» = x;
+      «mean_y» = y;
+    }) ed ee

@@ -4,13 +4,18 @@ use native.Mathlib.Omega.{arith}
 use mathlib.Core.Path.{_≡_, sym, ap, ap₂, _∙_}
 use mathlib.Core.List.{List, _++_, map, append-assoc}
 use lib.ListN.{length, take, drop, replicate}
-use Rattle.records.specs.Records.{Record, rows, flat, laidOut, Became, Each}
+use Rattle.records.specs.Records.{Record, rows, flat, laidOut}
+use Rattle.records.specs.RecordsClauses.{Became, Each}
 use Rattle.records.specs.RecordsLaws.{length-rows, take-flat, rows-front, drop-later, each-filter, each-map, each-both, rows-whole}
 use Rattle.detector_kept.specs.Spread.{spread}
-use Rattle.detector_kept.specs.Retain.{near, retain, Retained}
-use Rattle.detector_rank.specs.Rank.{withVariance, rank, Small, PlainVariance, Rankable}
-use Rattle.detector_rank.specs.RankLaws.{varied-plain}
-use Rattle.detector_kept.specs.Kept.{Candidates, ranked, KeptAndRanked}
+use Rattle.detector_kept.specs.Retain.{near, retain}
+use Rattle.detector_kept.specs.KeptClauses.{Retained, Candidates, KeptAndRanked}
+use Rattle.detector_variances.specs.Variances.{withVariance}
+use Rattle.detector_rank.specs.Rank.{rank}
+use Rattle.detector_variances.specs.VariancesClauses.{Small, PlainVariance}
+use Rattle.detector_rank.specs.RankClauses.{Rankable}
+use Rattle.detector_variances.specs.VariancesLaws.{varied-plain}
+use Rattle.detector_kept.specs.Kept.{ranked}
 use Rattle.detector_kept.specs.declared.Spread.{Spread}
 
 module _ {found : ℕ} {l₀ : List ℕ} (held : Candidates found l₀) {s : Spread} {kept : ℕ} {l₁ : List ℕ} (retained : Retained found s l₀ kept l₁) where
@@ -48,7 +53,8 @@ module _ {found : ℕ} {l₀ : List ℕ} (held : Candidates found l₀) {s : Spr
       counts : kept ≡ length (ranked (rows found l₀))
       counts = sym (length-rows kept l₃) ∙ ap length records-are
 
-      pub composed : length l₃ ≡ length l₀ → (l₄ : List ℕ) → l₄ ≡ take (40 * kept) l₃ ++ replicate (40 * (capacity - kept)) 0 ++ drop (40 * kept + 40 * (capacity - kept)) l₃
+      pub composed : length l₃ ≡ length l₀ → (l₄ : List ℕ)
+          → l₄ ≡ take (40 * kept) l₃ ++ replicate (40 * (capacity - kept)) 0 ++ drop (40 * kept + 40 * (capacity - kept)) l₃
           → KeptAndRanked found capacity l₀ kept l₄
       unfolding laidOut
       composed sized₃ l₄ cleared = record {
@@ -57,7 +63,8 @@ module _ {found : ℕ} {l₀ : List ℕ} (held : Candidates found l₀) {s : Spr
         written =
             let end : 40 * kept + 40 * (capacity - kept) ≡ 40 * capacity = omega (arith, below) in
             cleared
-            ∙ ap₂ (λ (a b : List ℕ). a ++ replicate (40 * (capacity - kept)) 0 ++ b) (take-flat kept l₃ ∙ ap flat records-are) (ap (λ (m : ℕ). drop m l₃) end ∙ rest-is)
+            ∙ ap₂ (λ (a b : List ℕ). a ++ replicate (40 * (capacity - kept)) 0 ++ b) (take-flat kept l₃ ∙ ap flat records-are)
+            (ap (λ (m : ℕ). drop m l₃) end ∙ rest-is)
             ∙ ap (λ (k : ℕ). flat (ranked (rows found l₀)) ++ replicate (40 * (capacity - k)) 0 ++ drop (40 * capacity) l₀) counts;
         records = ap (rows kept) (cleared ∙ append-assoc (take (40 * kept) l₃) _ _) ∙ rows-front kept l₃ _ (omega (arith, below)) ∙ records-are;
       }

@@ -9,9 +9,11 @@ use mathlib.Core.List.{List, [], _∷_, _++_, append-nil}
 use lib.Dec.{leb}
 use lib.ListN.{length, getD, take, drop, set}
 use lib.Seq.{take-suc, take-suc-set, drop-set-lt, getD-drop, drop-drop, take-all, length-take-le}
-use Rattle.records.specs.Records.{Record, rows, get, put, Became, Beside, filter}
-use Rattle.records.specs.RecordsLaws.{length-rows, get-row, length-get, get-word, take-rows, replaced, beside-start, beside-then, beside-room}
-use Rattle.detector_kept.specs.Retain.{within, near, retain, Retained}
+use Rattle.records.specs.Records.{Record, rows, filter}
+use Rattle.records.specs.RecordsClauses.{get, put, Became}
+use Rattle.records.specs.RecordsLaws.{Beside, length-rows, get-row, length-get, get-word, take-rows, replaced, beside-start, beside-then, beside-room}
+use Rattle.detector_kept.specs.Retain.{within, near, retain}
+use Rattle.detector_kept.specs.KeptClauses.{Retained}
 use Rattle.detector_kept.specs.declared.Spread.{Spread}
 
 -- ---- the test

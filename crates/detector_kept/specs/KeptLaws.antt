@@ -6,19 +6,24 @@ use mathlib.Core.Bool.{Bool, true, false, cond}
 use mathlib.Core.Path.{_≡_}
 use mathlib.Core.List.{List, [], _∷_, map}
 use lib.ListN.{length, length-map}
-use Rattle.records.specs.Records.{Record, rows, Each, filter}
+use Rattle.records.specs.Records.{Record, rows, filter}
+use Rattle.records.specs.RecordsClauses.{Each}
 use Rattle.records.specs.RecordsLaws.{rows-whole, each-both, each-filter, each-map}
-use Rattle.detector_rank.specs.Sort.{Sorted}
-use Rattle.detector_rank.specs.SortLaws.{permutes-length, sort-each}
-use Rattle.detector_rank.specs.Rank.{withVariance, lower, rank, Small, PlainVariance}
-use Rattle.detector_rank.specs.RankLaws.{rank-ranks, varied-plain}
+use Rattle.detector_sort.specs.SortLaws.{Sorted, permutes-length, sort-each}
+use Rattle.detector_variances.specs.Variances.{withVariance}
+use Rattle.detector_rank.specs.Rank.{lower, rank}
+use Rattle.detector_variances.specs.VariancesClauses.{Small, PlainVariance}
+use Rattle.detector_rank.specs.RankLaws.{rank-ranks}
+use Rattle.detector_variances.specs.VariancesLaws.{varied-plain}
 use Rattle.detector_kept.specs.declared.Spread.{Spread}
 use Rattle.detector_kept.specs.Spread.{spread}
 use Rattle.detector_kept.specs.Retain.{near, retain}
-use Rattle.detector_kept.specs.Kept.{Candidates, ranked}
+use Rattle.detector_kept.specs.KeptClauses.{Candidates}
+use Rattle.detector_kept.specs.Kept.{ranked}
 
 -- what the kept records hold once they have their variance
-pub each-varied : (P Q : Record → Type 0) → ((r : Record) → P r → Q (withVariance r)) → (s : Spread) (rs : List Record) → Each P rs → Each Q (map withVariance (retain s rs))
+pub each-varied : (P Q : Record → Type 0) → ((r : Record) → P r → Q (withVariance r))
+    → (s : Spread) (rs : List Record) → Each P rs → Each Q (map withVariance (retain s rs))
 each-varied P Q gives s rs each = each-map P Q withVariance gives (retain s rs) (each-filter P (near s) rs each)
 
 pub each-ranked : (P Q : Record → Type 0) → ((r : Record) → P r → Q (withVariance r)) → (rs : List Record) → Each P rs → Each Q (ranked rs)

@@ -1,12 +1,11 @@
 -- The candidates whose centre is within the deviation of the mean, as `detect` of detector.rs retains them. Definitions only. Assumes nothing.
-use Prim.Native.Nat.{ℕ, _+_, _-_, _*_, _≤_}
-use mathlib.Core.Path.{_≡_}
+use Prim.Native.Nat.{ℕ, _+_, _-_}
 use mathlib.Core.Bool.{Bool, _&&_}
 use mathlib.Core.List.{List}
 use lib.Dec.{leb}
-use lib.ListN.{length, getD, drop}
+use lib.ListN.{getD}
 use Rattle.records.specs.Fields as field
-use Rattle.records.specs.Records.{Record, rows, filter}
+use Rattle.records.specs.Records.{Record, filter}
 use Rattle.detector_kept.specs.declared.Spread.{Spread}
 
 -- x and m are at most d apart
@@ -18,11 +17,3 @@ near s r = within (s .«dev_x») (s .«mean_x») (getD r field.centerX 0) && wit
 
 abbrev pub retain : Spread → List Record → List Record
 retain s rs = filter (near s) rs
-
--- The first `kept` records after are those retained of the `found` before, and the words beyond record `found` are as they were. What stands between is
--- left open: `keep_and_rank` clears it.
-pub record Retained (found : ℕ) (s : Spread) (before : List ℕ) (kept : ℕ) (after : List ℕ) : Type 0 where
-  pub counted : kept ≡ length (retain s (rows found before))
-  pub few : kept ≤ found
-  pub records : rows kept after ≡ retain s (rows found before)
-  pub rest : drop (40 * found) after ≡ drop (40 * found) before

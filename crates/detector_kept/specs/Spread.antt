@@ -1,10 +1,11 @@
--- The mean and the standard deviation of the candidates' centres, as `calculate_center_point_std_dev` of detector.rs has them in `f64`, with a square as a product. Definitions only. Assumes nothing.
-use Prim.Native.Nat.{ℕ, _+_}
+-- The mean and the standard deviation of the candidates' centres, as `calculate_center_point_std_dev` of detector.rs has them in `f64`, with a
+-- square as a product. Definitions only. Assumes nothing.
+use Prim.Native.Nat.{ℕ}
 use mathlib.Core.List.{List, [], _∷_, map}
 use lib.IntN.{pos}
 use lib.ListN.{length, getD}
 use lib.Ieee.{Float, binary64, ofBits, ofInt, add, sub, mul, div, toUnsigned}
-use Rattle.ieee.specs.Sqrt.{sqrt}
+use Rattle.ieee_sqrt.specs.Sqrt.{sqrt}
 use Rattle.reads.specs.Total.{total}
 use Rattle.records.specs.Fields as field
 use Rattle.records.specs.Records.{Record}
@@ -18,27 +19,22 @@ abbrev pub real64 : ℕ → Float
 real64 n = ofInt binary64 (pos n)
 
 unfoldable pub mean : List ℕ → Float
-unfolding total ofInt div
 mean xs = div binary64 (real64 (total xs)) (real64 (length xs))
 
 -- acc, and the square of how far x is from m
 unfoldable pub withSquare : Float → Float → ℕ → Float
-unfolding ofInt add sub mul
 withSquare m acc x = let off = sub binary64 (real64 x) m in add binary64 acc (mul binary64 off off)
 
 -- acc, and the squares of the numbers, added in their order
 unfoldable pub squares : Float → Float → List ℕ → Float
-unfolding withSquare
 squares m acc [] = acc
 squares m acc (x ∷ xs) = squares m (withSquare m acc x) xs
 
 unfoldable pub deviation : List ℕ → Float
-unfolding mean squares ofBits ofInt div sqrt
 deviation xs = sqrt binary64 (div binary64 (squares (mean xs) (ofBits binary64 0) xs) (real64 (length xs)))
 
 -- both truncated, for x and for y
 unfoldable pub spread : List Record → Spread
-unfolding mean deviation toUnsigned
 spread rs = record {
   «dev_x» = toUnsigned 32 (deviation (fieldsAt field.centerX rs));
   «dev_y» = toUnsigned 32 (deviation (fieldsAt field.centerY rs));

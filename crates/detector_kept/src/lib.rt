@@ -3,11 +3,12 @@
 ghost use mathlib.Core.Path.{_≡_};
 ghost use Prim.Native.Nat.{_+_, _*_, _≤_, _<_};
 ghost use lib.ListN.{length};
-ghost use Rattle.records.specs.Records.{rows, get};
+ghost use Rattle.records.specs.Records.{rows};
+ghost use Rattle.records.specs.RecordsClauses.{get};
 ghost use Rattle.reads.specs.Total.{total};
 ghost use Rattle.detector_kept.specs.Spread.{fieldsAt, squares, mean, deviation, spread};
-ghost use Rattle.detector_kept.specs.Retain.{within, near, Retained};
-ghost use Rattle.detector_kept.specs.Kept.{Candidates, KeptAndRanked};
+ghost use Rattle.detector_kept.specs.Retain.{within, near};
+ghost use Rattle.detector_kept.specs.KeptClauses.{Retained, Candidates, KeptAndRanked};
 ghost use lib.Ieee as Ieee;
 
 // How far the centres go, and about which mean: both truncated.
@@ -56,11 +57,12 @@ fn squares_of(records: &[u32], found: usize, axis: usize, mean: f64) -> f64
 // The mean and the deviation of one coordinate.
 fn axis_of(records: &[u32], found: usize, axis: usize) -> Axis
     requires { ⌜ Candidates found (now records) × (axis < 40) ⌝ }
-    ensures { λ r. ⌜ (r .dev ≡ Ieee.toUnsigned 32 (deviation (fieldsAt axis (rows found (now (records .entry)))))) × (r .mean ≡ Ieee.toUnsigned 32 (mean (fieldsAt axis (rows found (now (records .entry)))))) ⌝ }
+    ensures { λ r. ⌜ (r .dev ≡ Ieee.toUnsigned 32 (deviation (fieldsAt axis (rows found (now (records .entry))))))
+        × (r .mean ≡ Ieee.toUnsigned 32 (mean (fieldsAt axis (rows found (now (records .entry)))))) ⌝ }
 {
     let n = (found as u32) as f64;
     let mean = (total_of(records, found, axis) as f64) / n;
-    let dev = ieee::sqrt_f64(squares_of(records, found, axis, mean) / n);
+    let dev = ieee_sqrt::sqrt_f64(squares_of(records, found, axis, mean) / n);
     Axis {
         dev: ieee::saturating_f64_to_u32(dev),
         mean: ieee::saturating_f64_to_u32(mean),
@@ -131,7 +133,7 @@ pub fn keep_and_rank(records: &mut [u32], found: usize, capacity: usize) -> usiz
 {
     let spread = calculate_center_point_std_dev(records, found);
     let kept = retain_near(records, found, spread);
-    detector_rank::set_variances(records, kept);
+    detector_variances::set_variances(records, kept);
     detector_rank::rank_records(records, kept);
     records::clear(records, 40 * kept, 40 * (capacity - kept));
     kept

@@ -9,8 +9,9 @@ use lib.Ieee.Fits.{and-l, and-r}
 use lib.ListN.{length, getD}
 use Rattle.rxing_result_point.specs.declared.PointU.{PointU}
 use Rattle.detector_boundary.specs.declared.Boundary.{Boundary}
-use Rattle.detector_boundary.specs.InImage.{Placed}
-use Rattle.detector_points.specs.Orientation.{point, isCell, areCells, adjustedPoint, adjustedPoints}
+use Rattle.detector_boundary.specs.BoundaryClauses.{Placed}
+use Rattle.detector_points.specs.Orientation.{point, adjustedPoint, adjustedPoints}
+use Rattle.detector_points.specs.OrientationClauses.{isCell, areCells}
 
 module _ (p : PointU) (b : Boundary) (cell : T (isCell p)) (placed : Placed b) where
   pub column-fits : p .x * (b .right - b .left) ≤ 61440

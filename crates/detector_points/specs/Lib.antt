@@ -1,1 +1,3 @@
+-- `Orientation` has the definitions, `OrientationClauses` what the clauses of functions name.
 pub mod Orientation
+pub mod OrientationClauses

@@ -1,21 +1,11 @@
 -- The points that are tested for a turn, in cells of the symbol's 30 columns and 33 rows, and as pixels. Definitions only. Assumes nothing.
 use Prim.Native.Nat.{ℕ, _+_, _-_, _*_, _/_, _%_, min}
-use mathlib.Core.Bool.{Bool, true, _&&_}
 use mathlib.Core.List.{List, [], _∷_, map}
-use lib.Dec.{ltb}
 use Rattle.rxing_result_point.specs.declared.PointU.{PointU}
 use Rattle.detector_boundary.specs.declared.Boundary.{Boundary}
 
 abbrev pub point : ℕ → ℕ → PointU
 point x y = record { x = x; y = y }
-
--- whether a point is a cell of the symbol, of 30 columns and 33 rows; and whether all of a list are
-abbrev pub isCell : PointU → Bool
-isCell p = ltb (p .x) 30 && ltb (p .y) 33
-
-abbrev pub areCells : List PointU → Bool
-areCells [] = true
-areCells (p ∷ ps) = isCell p && areCells ps
 
 -- `ix`, a cell's pixel column: odd rows lie half a cell to the right, and the cap comes before the left boundary is added
 abbrev pub pixelColumn : ℕ → ℕ → ℕ → ℕ → ℕ
@@ -36,7 +26,7 @@ adjustedPoint b p = record {
 abbrev pub adjustedPoints : Boundary → List PointU → List PointU
 adjustedPoints b cells = map (adjustedPoint b) cells
 
--- document 01, "Box, turn and class": the groups top left, top right, left, right, bottom left, bottom right
+-- docs/MANUAL.md, "How a search decides": the groups top left, top right, left, right, bottom left, bottom right
 abbrev pub orientationCells : List (List PointU)
 orientationCells =
     (point 10 9 ∷ point 11 9 ∷ point 11 10 ∷ [])

@@ -5,8 +5,9 @@ use rxing_result_point::PointU;
 ghost use mathlib.Core.Path.{_≡_};
 ghost use Prim.Native.Nat.{min};
 ghost use lib.Dec.{T};
-ghost use Rattle.detector_boundary.specs.InImage.{Placed};
-ghost use Rattle.detector_points.specs.Orientation.{isCell, areCells, adjustedPoint, adjustedPoints, orientationPoints};
+ghost use Rattle.detector_boundary.specs.BoundaryClauses.{Placed};
+ghost use Rattle.detector_points.specs.Orientation.{adjustedPoint, adjustedPoints, orientationPoints};
+ghost use Rattle.detector_points.specs.OrientationClauses.{isCell, areCells};
 
 // The symbol's columns and rows, of maxi_code_reader.rs.
 const MATRIX_WIDTH: u32 = 30;

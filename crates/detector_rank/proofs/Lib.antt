@@ -1,5 +1,3 @@
-pub mod Varying
-pub mod Merging
 pub mod BitsOrder
 pub mod Keyed
-pub mod Arranging
+pub mod Placing

@@ -1,6 +1,5 @@
--- `Sort` and `Rank` have the definitions, `SortLaws` and `RankLaws` what they mean. `Keys` has how the ranking is computed.
-pub mod Sort
-pub mod SortLaws
+-- `Rank` has the definitions, `RankClauses` what the clauses of functions name, `RankLaws` what the ranking means. `Keys` has how it is computed.
 pub mod Rank
+pub mod RankClauses
 pub mod RankLaws
 pub mod Keys

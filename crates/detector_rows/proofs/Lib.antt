@@ -1,3 +1,1 @@
-pub mod RingLaws
 pub mod SkipLaws
-pub mod SweepLaws

@@ -8,7 +8,7 @@ use lib.ListN.{length}
 use Rattle.reads.specs.Reads.{Reads}
 use Rattle.reads.specs.Bits.{mark, markAll, range}
 use Rattle.reads.specs.BitsLaws.{length-markAll, range-last}
-use Rattle.reads.specs.Runs.{Ran, Resumes}
+use Rattle.reads.specs.RunsClauses.{Ran, Resumes}
 use Rattle.reads.specs.RunsLaws.{ran-done, resumes-start, resumes-step, resumes-then, resumes-else, resumes-end, resumes-through}
 use Rattle.bit_matrix.specs.declared.Shape.{Shape}
 use Rattle.bit_matrix.specs.Shape.{size}

@@ -1,190 +1,15 @@
 -- What holds of a window that the row search finds, on every image, and that the search with the source's test of the widths is the same. Assumes nothing.
-use Prim.Native.Nat.{ℕ, zero, suc, _+_, _-_, _*_, _/_, _^_, _≤_, _<_}
-use native.Mathlib.Decide.{ℕ-discrete}
+use Prim.Native.Nat.{ℕ, zero, suc, _+_, _-_, _^_, _≤_}
 use native.Mathlib.Omega.{arith}
-use mathlib.Core.Bool.{Bool, true, false, not, _&&_, Bool·beq, false≢true}
-use mathlib.Core.Logic.{_≢_}
-use mathlib.Core.Path.{_≡_, refl, _∙_}
-use mathlib.Core.List.{List, [], _∷_, _++_}
-use borrow.Author.Tests.{ltb-true, ltb-false}
-use lib.Dec.{ltb}
-use lib.ListN.{length, getD, drop, replicate, length-set, length-drop, length-append}
-use lib.Seq.{getD-set-same, getD-set-other, getD-drop}
-use Rattle.reads.specs.Reads.{Reads, Always, Same}
-use Rattle.reads.specs.ReadsLaws.{always-done, always-bind, always-after, always-cond, same-refl, same-after, same-cond}
+use mathlib.Core.Bool.{true}
+use lib.ListN.{replicate}
+use Rattle.reads.specs.Reads.{Reads}
+use Rattle.reads.specs.ReadsLaws.{Always, Same, always-done, always-bind, always-after, always-cond, same-refl, same-after}
 use Rattle.bit_matrix.specs.declared.Shape.{Shape}
-use Rattle.detector_widths.specs.Buckets.{bump}
-use Rattle.detector_widths.specs.Widths.{evenTotal, oddTotal, evenRunsPass, validWidths, validWidthsF32}
-use Rattle.detector_widths.specs.SameWidths.{same-widths}
-use Rattle.reads.specs.Total.{total}
-use Rattle.detector_rows.specs.Rows.{metadata, withoutFirst, skipWhite, windowBy, windowFrom, nextBullseyeBy, nextBullseye}
-use Rattle.detector_rows.specs.declared.Bullseye.{Bullseye}
-
--- ---- totals
-
-total-bump : (buckets : List ℕ) (i : ℕ) → i < length buckets → total (bump buckets i) ≡ total buckets + 1
-unfolding total bump
-total-bump [] i h = absurd (omega arith)
-total-bump (n ∷ ns) zero h = omega arith
-total-bump (n ∷ ns) (suc i) h =
-    let rest : total (bump ns i) ≡ total ns + 1 = total-bump ns i (omega arith) in
-    omega (arith, rest)
-
-total-last : (buckets : List ℕ) → total (buckets ++ 1 ∷ []) ≡ total buckets + 1
-unfolding total
-total-last [] = refl
-total-last (n ∷ ns) = omega (arith, total-last ns)
-
-total-drop : (buckets : List ℕ) → total (drop 1 buckets) ≤ total buckets
-unfolding total
-total-drop [] = omega arith
-total-drop (n ∷ ns) = omega arith
-
--- no run is longer than all
-at-most-total : (buckets : List ℕ) (i : ℕ) → getD buckets i 0 ≤ total buckets
-unfolding total
-at-most-total [] i = omega arith
-at-most-total (n ∷ ns) zero = omega arith
-at-most-total (n ∷ ns) (suc i) = omega (arith, at-most-total ns i)
-
--- runs with a pixel each
-total-positive : (buckets : List ℕ) → ((i : ℕ) → i < length buckets → 0 < getD buckets i 0) → length buckets ≤ total buckets
-unfolding total
-total-positive [] some = omega arith
-total-positive (n ∷ ns) some = omega (arith, some 0 (omega arith), total-positive ns (λ i h. some (suc i) (omega arith)))
-
--- run n, and those after it
-total-from : (buckets : List ℕ) (n : ℕ) → total (drop n buckets) ≡ getD buckets n 0 + total (drop (suc n) buckets)
-unfolding total
-total-from [] zero = refl
-total-from [] (suc n) = refl
-total-from (b ∷ bs) zero = refl
-total-from (b ∷ bs) (suc n) = total-from bs n
-
-parts-total : (buckets : List ℕ) → evenTotal buckets + oddTotal buckets ≤ total buckets
-parts-total buckets =
-    let from = total-from buckets in
-    omega (arith, from 0, from 1, from 2, from 3, from 4, from 5, from 6, from 7, from 8, from 9, from 10)
-
--- ---- the runs so far
-
--- Runs counted from column `start` on, up to `column`: each but the first has a pixel. `always-window` takes it from
--- pixel to pixel, so that it holds of every window that is tested.
-pub record CountedRuns (start column pointer : ℕ) (buckets : List ℕ) : Type 0 where
-  pub eleven : length buckets ≡ 11
-  pub few : pointer ≤ 10
-  pub sum : start + total buckets ≤ column
-  pub some : (i : ℕ) → 0 < i → i ≤ pointer → 0 < getD buckets i 0
-
--- a new last run has a pixel
-last-some : (buckets : List ℕ) (i : ℕ) → i ≤ length buckets → ((j : ℕ) → j ≤ i → j < length buckets → 0 < getD buckets j 0) → 0 < getD (buckets ++ 1 ∷ []) i 0
-last-some [] zero h some = omega arith
-last-some [] (suc i) h some = absurd (omega arith)
-last-some (n ∷ ns) zero h some = some 0 (omega arith) (omega arith)
-last-some (n ∷ ns) (suc i) h some = last-some ns i (omega arith) (λ j low less. some (suc j) (omega arith) (omega arith))
-
--- before the first pixel
-pub counted-none : {start first : ℕ} → start ≤ first → CountedRuns start first 0 (replicate 11 0)
-unfolding total
-counted-none h = record { eleven = refl; few = omega arith; sum = omega arith; some = λ i low high. absurd (omega arith) }
-
-module _ {start column pointer : ℕ} {buckets : List ℕ} (counted : CountedRuns start column pointer buckets) where
-  -- run i has a pixel, once run `at` has one more
-  bump-some : (at i : ℕ) → at < 11 → Dec (i ≡ at) → (i ≢ at → 0 < getD buckets i 0) → 0 < getD (bump buckets at) i 0
-  unfolding bump
-  bump-some at i h (yes e) old =
-      let long : at < length buckets = omega (arith, counted .eleven) in
-      rw (e, getD-set-same buckets at (getD buckets at 0 + 1) 0 long) (omega arith)
-  bump-some at i h (no other) old = rw (getD-set-other buckets at i (getD buckets at 0 + 1) 0 other) (old other)
-
-  more : (at : ℕ) → at < 11 → start + total (bump buckets at) ≤ column + 1
-  more at h = omega (arith, total-bump buckets at (omega (arith, counted .eleven)), counted .sum)
-
-  same-length : (at : ℕ) → length (bump buckets at) ≡ 11
-  unfolding bump
-  same-length at = length-set buckets at _ ∙ counted .eleven
-
-  -- whatever widths are tested, the test is the source's in f32
-  counted-widths : column ≤ 2 ^ 20 → validWidthsF32 buckets ≡ validWidths buckets
-  counted-widths h =
-      same-widths buckets (omega (arith, parts-total buckets, counted .sum)) (omega (arith, parts-total buckets, counted .sum))
-
-  -- one pixel more in the present run
-  pub counted-same : CountedRuns start (column + 1) pointer (bump buckets pointer)
-  counted-same = record {
-    eleven = same-length pointer;
-    few = counted .few;
-    sum = more pointer (omega (arith, counted .few));
-    some = λ i low high. bump-some pointer i (omega (arith, counted .few)) (ℕ-discrete i pointer) (λ other. counted .some i low high);
-  }
-
-  -- the next run begun
-  pub counted-next : pointer < 10 → CountedRuns start (column + 1) (pointer + 1) (bump buckets (pointer + 1))
-  counted-next h = record {
-    eleven = same-length (pointer + 1);
-    few = omega arith;
-    sum = more (pointer + 1) (omega arith);
-    some = λ i low high. bump-some (pointer + 1) i (omega arith) (ℕ-discrete i (pointer + 1)) (λ other. counted .some i low (omega arith));
-  }
-
-  -- the first run dropped
-  pub counted-without : 10 ≤ pointer → CountedRuns start (column + 1) pointer (withoutFirst buckets)
-  counted-without full =
-      let long : length (drop 1 buckets) ≡ 10 = length-drop 1 buckets ∙ omega (arith, counted .eleven) in
-      record {
-        eleven = length-append (drop 1 buckets) (1 ∷ []) ∙ omega (arith, long);
-        few = counted .few;
-        sum = omega (arith, total-last (drop 1 buckets), total-drop buckets, counted .sum);
-        some = λ i low high. last-some (drop 1 buckets) i (omega (arith, long, counted .few))
-            (λ j below less. rw getD-drop (counted .some (1 + j) (omega arith) (omega (arith, long))));
-      }
-
--- ---- a window that was found
-
--- The window's runs lie between the start and the column that closed it, `center + radius`.
-pub record Closed (start width : ℕ) (eye : Bullseye) : Type 0 where
-  pub after-start : start + total (eye .buckets) ≤ eye .center + eye .radius
-  pub before-limit : eye .center + eye .radius < width - 6
-  pub half : eye .radius ≡ (total (eye .buckets) + 1) / 2
-  pub eleven-pixels : 11 ≤ total (eye .buckets)
-  pub eleven-runs : length (eye .buckets) ≡ 11
-  pub narrow : (i : ℕ) → getD (eye .buckets) i 0 ≤ width
-
-and-left : (a b : Bool) → a && b ≡ true → a ≡ true
-and-left true b e = refl
-and-left false b e = e
-
--- the first run has a pixel where the widths pass
-first-some : (buckets : List ℕ) → validWidths buckets ≡ true → 0 < getD buckets 0 0
-unfolding validWidths evenRunsPass
-first-some buckets pass =
-    let first = and-left _ _ (and-left _ _ (and-left _ _ (and-left _ _ (and-left _ _ (and-left _ _ (and-left _ _ pass)))))) in
-    let wide : evenTotal buckets < 10 * getD buckets 0 0 = ltb-true (evenTotal buckets) (10 * getD buckets 0 0) first in
-    omega (arith, wide)
-
-closed : {start column width : ℕ} {buckets : List ℕ} → CountedRuns start column 10 buckets → validWidths buckets ≡ true → column < width - 6
-    → Closed start width (metadata buckets column)
-unfolding metadata
-closed {column = column} {width} {buckets} counted pass before =
-    let each : (i : ℕ) → Dec (i ≡ 0) → i < length buckets → 0 < getD buckets i 0 =
-    (λ i first low. by-place i first low) in
-    let many : length buckets ≤ total buckets = total-positive buckets (λ i low. each i (ℕ-discrete i 0) low) in
-    record {
-      after-start = omega (arith, counted .sum, counted .eleven, many);
-      before-limit = omega (arith, counted .sum, counted .eleven, many);
-      half = refl;
-      eleven-pixels = omega (arith, counted .eleven, many);
-      eleven-runs = counted .eleven;
-      narrow = λ i. omega (arith, at-most-total buckets i, counted .sum);
-    }
-  where
-    by-place : (i : ℕ) → Dec (i ≡ 0) → i < length buckets → 0 < getD buckets i 0
-    by-place i (yes e) low = rw e (first-some buckets pass)
-    by-place i (no later) low = counted .some i (omega arith) (omega (arith, counted .eleven))
-
--- what a search says of its result
-abbrev pub FoundWindow : ℕ → ℕ → Bullseye → Type 0
-FoundWindow start width eye = eye .found ≡ true → Closed start width eye
+use Rattle.detector_widths.specs.WidthsF32.{validWidthsF32}
+use Rattle.detector_rows.specs.Rows.{skipWhite, nextBullseyeBy}
+use Rattle.detector_rows.specs.RowsClauses.{nextBullseye}
+use Rattle.detector_first_window.specs.FirstWindowLaws.{FoundWindow, counted-none, always-window, same-window}
 
 module _ (shape : Shape) (row : ℕ) where
   always-skip : (n column : ℕ) → Always (λ first. column ≤ first) (skipWhite shape row n column)
@@ -197,25 +22,6 @@ module _ (shape : Shape) (row : ℕ) where
       later : {p : Reads ℕ} → Always (λ first. column + 1 ≤ first) p → Always (λ first. column ≤ first) p
       later always = record { on = λ image. omega (arith, always .on image) }
 
-  always-window : {start width : ℕ} (n column : ℕ) (last : Bool) (pointer : ℕ) (buckets : List ℕ)
-      → n ≤ width - 6 - column → CountedRuns start column pointer buckets
-      → Always (FoundWindow start width) (windowFrom shape row n column last pointer buckets)
-  unfolding windowBy
-  always-window zero column last pointer buckets h counted = always-done (λ e. absurd (false≢true e))
-  always-window {start} {width} (suc n) column last pointer buckets h counted =
-      always-after _ _ λ black. always-cond (Bool·beq black last)
-      (λ _. always-window n (column + 1) last pointer (bump buckets pointer) (omega arith) (counted-same counted))
-      (λ _. always-cond (ltb pointer 10)
-      (λ early. always-window n (column + 1) black (pointer + 1) (bump buckets (pointer + 1)) (omega arith) (counted-next counted (ltb-true pointer 10 early)))
-      (λ late. always-cond (validWidths buckets && not black)
-      (λ pass. always-done (λ _. closes (ltb-false pointer 10 late) (and-left _ _ pass)))
-      (λ _. always-window n (column + 1) black pointer (withoutFirst buckets) (omega arith) (counted-without counted (ltb-false pointer 10 late)))))
-    where
-      closes : 10 ≤ pointer → validWidths buckets ≡ true → Closed start width (metadata buckets column)
-      closes full pass =
-          let ten : pointer ≡ 10 = omega (arith, counted .few) in
-          closed (rw ten at counted) pass (omega arith)
-
 -- Whatever the image, a window found is closed after the start and before the limit.
 pub always-closed : (shape : Shape) (row start : ℕ) → Always (FoundWindow start (shape .width)) (nextBullseye shape row start)
 unfolding nextBullseyeBy
@@ -224,22 +30,6 @@ always-closed shape row start =
     λ first after. always-window shape row (shape .width - 6 - first) first true 0 (replicate 11 0) (omega arith) (counted-none after)
 
 -- ---- with the source's test of the widths
-
-module _ (shape : Shape) (row : ℕ) where
-  same-window : {start width : ℕ} (n column : ℕ) (last : Bool) (pointer : ℕ) (buckets : List ℕ)
-      → width ≤ 2 ^ 20 → n ≤ width - 6 - column → CountedRuns start column pointer buckets
-      → Same (windowBy validWidthsF32 shape row n column last pointer buckets) (windowFrom shape row n column last pointer buckets)
-  unfolding windowBy
-  same-window zero column last pointer buckets narrow h counted = same-refl
-  same-window (suc n) column last pointer buckets narrow h counted =
-      same-after _ _ same-refl λ black. same-cond (Bool·beq black last)
-      (λ _. same-window n (column + 1) last pointer (bump buckets pointer) narrow (omega arith) (counted-same counted))
-      (λ _. same-cond (ltb pointer 10)
-      (λ early. same-window n (column + 1) black (pointer + 1) (bump buckets (pointer + 1)) narrow (omega arith) (counted-next counted (ltb-true pointer 10 early)))
-      (λ late. rw (counted-widths counted (omega arith))
-      (same-cond (validWidths buckets && not black)
-      (λ _. same-refl)
-      (λ _. same-window n (column + 1) black pointer (withoutFirst buckets) narrow (omega arith) (counted-without counted (ltb-false pointer 10 late))))))
 
 -- The search with the source's f32 test has the results and the reads of the search with the whole-number one.
 pub same-rows-f32 : (shape : Shape) (row start : ℕ) → shape .width ≤ 2 ^ 20

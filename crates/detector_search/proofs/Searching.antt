@@ -1,29 +1,37 @@
 -- The parts of a search, put together. Assumes nothing.
-use Prim.Native.Nat.{ℕ, _+_, _-_, _*_, _^_, _≤_, _<_, min}
+use Prim.Native.Nat.{ℕ, _+_, _-_, _*_, _≤_, min}
 use native.Mathlib.Nat.{min-eq-left}
 use native.Mathlib.Omega.{arith}
 use mathlib.Core.Path.{_≡_, refl, sym, ap, ap₂, _∙_}
-use mathlib.Core.List.{List, [], _∷_, _++_, append-assoc}
+use mathlib.Core.List.{List, [], _++_, append-assoc}
 use lib.ListN.{length, getD, drop, set, take-append-drop}
 use lib.Seq.{take-all, drop-at, length-take-le, getD-set-other}
 use Rattle.reads.specs.Reads.{Reads}
 use Rattle.reads.specs.Bits.{zeros}
-use Rattle.reads.specs.Runs.{valueOf, Ran}
+use Rattle.reads.specs.Runs.{valueOf}
+use Rattle.reads.specs.RunsClauses.{Ran}
 use Rattle.reads.specs.RunsLaws.{ran-done, ran-bind, always-ran}
 use Rattle.bit_matrix.specs.declared.Shape.{Shape}
 use Rattle.bit_matrix.specs.Shape.{Image}
 use Rattle.records.specs.Fields as field
-use Rattle.records.specs.Records.{Record, rows, flat, laidOut, Each}
+use Rattle.records.specs.Records.{Record, rows, flat, laidOut}
+use Rattle.records.specs.RecordsClauses.{Each}
 use Rattle.records.specs.RecordsLaws.{length-rows, drop-later, take-flat, each-weaker}
-use Rattle.detector_candidates.specs.Candidates.{concentricCircles, Room, Listed}
-use Rattle.detector_candidates.specs.CandidatesLaws.{Candidate, all-candidates}
-use Rattle.detector_rank.specs.Rank.{varianceBits, withVariance, Small}
+use Rattle.detector_candidates.specs.Candidates.{concentricCircles}
+use Rattle.detector_candidates.specs.CandidatesClauses.{Room, Listed}
+use Rattle.detector_candidate.specs.CandidateLaws.{Candidate}
+use Rattle.detector_candidates.specs.CandidatesLaws.{all-candidates}
+use Rattle.detector_variances.specs.Variances.{varianceBits, withVariance}
+use Rattle.detector_variances.specs.VariancesClauses.{Small}
 use Rattle.detector_kept.specs.KeptLaws.{each-ranked}
-use Rattle.detector_verdict.specs.Verdict.{verdict, Judgeable, Holds, Judged}
+use Rattle.detector_verdict.specs.Verdict.{verdict}
+use Rattle.detector_verdict.specs.VerdictClauses.{Judgeable, Holds, Judged}
 use Rattle.detector_verdict.specs.VerdictLaws.{no-records, verdict-counted, counted-few, kept-counted, each-kept}
 use Rattle.detector_verdict.specs.declared.Counts.{Counts}
-use Rattle.detector_boxes.specs.Boxing.{boxedAll, Boxable, AllBoxable, Boxed}
-use Rattle.detector_search.specs.Search.{Result, searchAt, Sought}
+use Rattle.detector_boxes.specs.Boxing.{boxedAll}
+use Rattle.detector_boxes.specs.BoxingClauses.{Boxable, AllBoxable, Boxed}
+use Rattle.detector_search.specs.Search.{Result, searchAt}
+use Rattle.detector_search.specs.SearchClauses.{Sought}
 
 -- the variance's word is none of those that the box takes
 candidate-boxable : {shape : Shape} (r : Record) → Candidate shape r → Boxable shape (withVariance r)
@@ -115,7 +123,8 @@ module _ {words marks records : List ℕ} {shape : Shape} {capacity : ℕ} (imag
         pub boxable : AllBoxable shape k c₂
         boxable = record {
           held = buffer-room;
-          each = rw (judged .records) (each-kept capacity candidates (Boxable shape) (each-ranked (Candidate shape) (Boxable shape) candidate-boxable candidates (fits .0)));
+          each = rw (judged .records)
+              (each-kept capacity candidates (Boxable shape) (each-ranked (Candidate shape) (Boxable shape) candidate-boxable candidates (fits .0)));
         }
 
         -- after the boxes

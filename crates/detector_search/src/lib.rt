@@ -1,7 +1,8 @@
 // `detect` of detector.rs up to the box, in three parts: the sweep, the verdict on its candidates, and the box and turn of each kept record.
 ghost use Rattle.bit_matrix.specs.Shape.{Image};
-ghost use Rattle.detector_candidates.specs.Candidates.{Room};
-ghost use Rattle.detector_search.specs.Search.{searchAt, Sought};
+ghost use Rattle.detector_candidates.specs.CandidatesClauses.{Room};
+ghost use Rattle.detector_search.specs.Search.{searchAt};
+ghost use Rattle.detector_search.specs.SearchClauses.{Sought};
 use bit_matrix::Shape;
 use detector_verdict::Counts;
 
@@ -14,7 +15,8 @@ pub fn search(
     capacity: usize,
 ) -> Counts
     requires { ⌜ Image shape (now words) (now marks) × Room capacity (now records) 0 ⌝ }
-    ensures { λ r. ⌜ Sought (searchAt shape capacity) capacity (now (words .entry)) (now (marks .entry)) (now (records .entry)) r (now (marks .exit)) (now (records .exit)) ⌝ }
+    ensures { λ r. ⌜ Sought (searchAt shape capacity) capacity (now (words .entry)) (now (marks .entry)) (now (records .entry)) r (now (marks .exit))
+        (now (records .exit)) ⌝ }
 {
     let found = detector_candidates::find_concentric_circles(
         words,

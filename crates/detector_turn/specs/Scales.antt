@@ -1,6 +1,6 @@
 -- The loop over `ACCEPTED_SCALES` in `box_symbol` of detector.rs. Each scale first replaces the centre by the corrected one; a corrected centre outside the
 -- image ends the loop, and so does the first scale with a rotation. Definitions only. Assumes nothing.
-use Prim.Native.Nat.{ℕ, zero, suc, _+_, _-_, _≤_, _<_}
+use Prim.Native.Nat.{ℕ, zero, suc, _+_, _-_}
 use mathlib.Core.Bool.{Bool, cond, _||_}
 use mathlib.Core.List.{List, [], _∷_}
 use lib.Dec.{leb}
@@ -9,22 +9,14 @@ use lib.ListN.{getD}
 use Rattle.reads.specs.Reads.{Reads, done, _>>=_}
 use Rattle.bit_matrix.specs.declared.Shape.{Shape}
 use Rattle.rxing_result_point.specs.declared.PointU.{PointU}
-use Rattle.rxing_result_point.specs.Points.{real}
 use Rattle.detector_boundary.specs.Boundary.{scaledBoundary}
 use Rattle.detector_points.specs.Orientation.{orientationPoints}
-use Rattle.detector_walks.specs.Walks.{Lent}
 use Rattle.detector_circle.specs.declared.Circle.{Circle}
 use Rattle.detector_circle.specs.Circle.{correctedCircle}
 use Rattle.detector_degrees.specs.declared.Rotation.{Rotation}
 use Rattle.detector_degrees.specs.Degrees.{ifRotation, tryDegrees}
-use Rattle.detector_turn.specs.declared.Turn.{Turn}
-use Rattle.detector_turn.specs.declared.Outcome.the-variants.{Turned, NoTurn, LostCentre}
-
--- what the scales are lent: an image, a circle whose centre lies inside, with a radius from 6 to 2,047, and the table
-pub record LentCircle (shape : Shape) (words marks : List ℕ) (circle : Circle) (table : List Float) : Type 0 where
-  pub lent : Lent shape words marks (circle .center) table
-  pub least : 6 ≤ circle .radius
-  pub most : circle .radius < 2048
+use Rattle.detector_outcome.specs.declared.Turn.{Turn}
+use Rattle.detector_outcome.specs.Outcomes.{turnedBy, notTurned, lostAt}
 
 -- `ACCEPTED_SCALES`: 0.065, 0.069, 0.07, 0.075 and 0.08
 abbrev pub acceptedScales : List Float
@@ -39,16 +31,6 @@ acceptedScales =
 -- scale 1 to 5
 unfoldable pub acceptedScale : ℕ → Float
 acceptedScale scale = getD acceptedScales (scale - 1) nan
-
--- what a turn holds in each of the three cases
-abbrev pub turnedBy : ℕ → ℕ → PointU → Turn
-turnedBy degree scale center = record { outcome = Turned (real degree); degree = degree; scale = scale; center = center }
-
-abbrev pub notTurned : PointU → Turn
-notTurned center = record { outcome = NoTurn; degree = 0; scale = 0; center = center }
-
-abbrev pub lostAt : ℕ → PointU → Turn
-lostAt scale center = record { outcome = LostCentre; degree = 0; scale = scale; center = center }
 
 unfoldable pub isOutside : Shape → PointU → Bool
 isOutside shape p = leb (shape .width) (p .x) || leb (shape .height) (p .y)

@@ -9,23 +9,24 @@ use lib.Dec.{T, leb}
 use lib.Ieee.{Float, nan, binary32, ofBits, ofInt, toBits, le}
 use lib.ListN.{getD}
 use Rattle.sines.specs.Every.{every-at}
-use Rattle.reads.specs.Reads.{Reads, done, Always}
-use Rattle.reads.specs.ReadsLaws.{always-done, always-bind, always-after, always-cond}
+use Rattle.reads.specs.Reads.{Reads, done}
+use Rattle.reads.specs.ReadsLaws.{Always, always-done, always-bind, always-after, always-cond}
 use Rattle.bit_matrix.specs.declared.Shape.{Shape}
 use Rattle.bit_matrix.specs.Shape.{Inside}
 use Rattle.rxing_result_point.specs.declared.PointU.{PointU}
 use Rattle.rxing_result_point.specs.Points.{real}
-use Rattle.detector_boundary.specs.Size.{isScale}
-use Rattle.detector_boundary.specs.Boundary.{Centered}
+use Rattle.detector_size.specs.SizeClauses.{isScale}
+use Rattle.detector_boundary.specs.BoundaryClauses.{Centered}
 use Rattle.detector_circle.specs.declared.Circle.{Circle}
 use Rattle.detector_circle.specs.Circle.{correctedCircle}
 use Rattle.detector_degrees.specs.declared.Rotation.{Rotation}
 use Rattle.detector_degrees.specs.declared.Rotation.the-variants.{Found, None}
 use Rattle.detector_degrees.specs.Degrees.{ifRotation}
 use Rattle.detector_degrees.specs.DegreesLaws.{Tried, tried}
-use Rattle.detector_turn.specs.declared.Turn.{Turn}
-use Rattle.detector_turn.specs.Outcomes.{ifOutcome, rotationBits}
-use Rattle.detector_turn.specs.Scales.{LentCircle, acceptedScales, acceptedScale, turnedBy, isOutside, attemptRotationBox, scalesFrom, tryScales}
+use Rattle.detector_outcome.specs.declared.Turn.{Turn}
+use Rattle.detector_outcome.specs.Outcomes.{ifOutcome, rotationBits, turnedBy}
+use Rattle.detector_turn.specs.Scales.{acceptedScales, acceptedScale, isOutside, attemptRotationBox, scalesFrom, tryScales}
+use Rattle.detector_turn.specs.ScalesClauses.{LentCircle}
 
 -- A degree is even and at most 348, and 0 without a turn. The rotation is the degree as an f32. With a turn or a lost centre the scale is 1 to 5, else 0.
 -- The centre lies inside the image.

@@ -6,7 +6,8 @@ use mathlib.Core.List.{List}
 use lib.ListN.{getD}
 use lib.Ieee.{Float, binary32, ofBits, add, div}
 use Rattle.rxing_result_point.specs.Points.{real}
-use Rattle.detector_variance.specs.Variance.{evens, odds, others, widthTo, tenthOfWidth, further, varianceTo, expectedArea, areaVariance, circleVariance, Short}
+use Rattle.detector_variance.specs.Variance.{evens, odds, others, widthTo, tenthOfWidth, further, varianceTo, expectedArea, areaVariance, circleVariance}
+use Rattle.detector_variance.specs.VarianceClauses.{Short}
 
 -- ---- the runs
 
@@ -41,7 +42,8 @@ pub variance-even-is : (h : List ℕ) (expected : Float) (a0 a2 a4 a6 a8 a10 : F
     → a10 ≡ varianceTo evens h expected 11
 unfolding varianceTo
 variance-even-is h expected a0 a2 a4 a6 a8 a10 n0 n2 n4 n6 n8 n10 r0 s0 r2 s2 r4 s4 r6 s6 r8 s8 r10 s10 =
-    step-is expected (step-is expected (step-is expected (step-is expected (step-is expected (step-is expected {acc = ofBits binary32 0} refl r0 s0) r2 s2) r4 s4) r6 s6) r8 s8) r10 s10
+    step-is expected (step-is expected
+    (step-is expected (step-is expected (step-is expected (step-is expected {acc = ofBits binary32 0} refl r0 s0) r2 s2) r4 s4) r6 s6) r8 s8) r10 s10
 
 pub variance-front-is : (h : List ℕ) (expected : Float) (a1 a2 a3 a4 : Float) (n1 n2 n3 n4 : ℕ)
     → n1 ≡ getD h 1 0 → a1 ≡ further expected (ofBits binary32 0) n1 → n2 ≡ getD h 2 0 → a2 ≡ further expected a1 n2 → n3 ≡ getD h 3 0

@@ -1,3 +1,4 @@
--- `Variance` has the definitions. `NeverNaN` proves that a variance is a number and not negative.
+-- `Variance` has the definitions, `VarianceClauses` what the clauses of functions name. `NeverNaNLaws` proves that a variance is a number and not negative.
 pub mod Variance
-pub mod NeverNaN
+pub mod VarianceClauses
+pub mod NeverNaNLaws

@@ -3,7 +3,8 @@
 ghost use mathlib.Core.Path.{_≡_};
 ghost use Prim.Native.Nat.{_<_};
 ghost use lib.ListN.{getD};
-ghost use Rattle.detector_variance.specs.Variance.{evens, odds, others, widthTo, further, varianceTo, expectedArea, areaVariance, circleVariance, Short};
+ghost use Rattle.detector_variance.specs.Variance.{evens, odds, others, widthTo, further, varianceTo, expectedArea, areaVariance, circleVariance};
+ghost use Rattle.detector_variance.specs.VarianceClauses.{Short};
 
 // Run i.
 fn run(runs: &[u32], i: usize) -> u32

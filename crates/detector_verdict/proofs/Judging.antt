@@ -3,13 +3,15 @@ use Prim.Native.Nat.{ℕ, _+_, _-_, _*_, _≤_, _<_}
 use native.Mathlib.Nat.{zero-add}
 use native.Mathlib.Omega.{arith}
 use mathlib.Core.Path.{_≡_, refl, sym, ap, ap₂, _∙_}
-use mathlib.Core.List.{List, [], _∷_, _++_}
+use mathlib.Core.List.{List, [], _++_}
 use borrow.Author.Tests.{lt-ltb, le-ltb}
 use lib.ListN.{length, take, drop, replicate}
 use Rattle.records.specs.Records.{Record, rows, flat, laidOut}
-use Rattle.detector_kept.specs.Kept.{Candidates, ranked, KeptAndRanked}
+use Rattle.detector_kept.specs.KeptClauses.{Candidates, KeptAndRanked}
+use Rattle.detector_kept.specs.Kept.{ranked}
 use Rattle.detector_verdict.specs.VerdictLaws.{no-records}
-use Rattle.detector_verdict.specs.Verdict.{Verdict, verdictOf, verdict, Judgeable, Holds, Judged}
+use Rattle.detector_verdict.specs.Verdict.{Verdict, verdictOf, verdict}
+use Rattle.detector_verdict.specs.VerdictClauses.{Judgeable, Holds, Judged}
 use Rattle.detector_verdict.specs.declared.Counts.{Counts}
 
 -- the candidates fit the buffer

@@ -1,3 +1,4 @@
--- `Verdict` has the definition and what `verdict` leaves in the record buffer, `VerdictLaws` what the counts are by the answer.
+-- `Verdict` has the definitions, `VerdictClauses` what the clauses of functions name, `VerdictLaws` what the counts are by the answer.
 pub mod Verdict
+pub mod VerdictClauses
 pub mod VerdictLaws

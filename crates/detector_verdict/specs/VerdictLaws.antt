@@ -8,14 +8,15 @@ use mathlib.Core.Path.{_≡_, refl}
 use borrow.Author.Tests.{ltb-true, ltb-false}
 use lib.Dec.{ltb}
 use lib.ListN.{length}
-use Rattle.records.specs.Records.{Record, Each}
+use Rattle.records.specs.Records.{Record}
+use Rattle.records.specs.RecordsClauses.{Each}
 use Rattle.detector_kept.specs.Kept.{ranked}
 use Rattle.detector_kept.specs.KeptLaws.{ranked-few}
 use Rattle.detector_verdict.specs.Verdict.{verdict}
 use Rattle.detector_verdict.specs.declared.Counts.{Counts}
 
--- the answer is 0, 7 or 8; with 0 some of those found are kept, and no more were found than the capacity; with 7 one more was found, and none is kept; with 8 none
--- is kept
+-- the answer is 0, 7 or 8; with 0 some of those found are kept, and no more were found than the capacity; with 7 one more was found, and none is kept; with
+-- 8 none is kept
 pub record Counted (capacity : ℕ) (c : Counts) : Type 0 where
   pub answers : (c .answer ≡ 0) ⊎ (c .answer ≡ 7) ⊎ (c .answer ≡ 8)
   pub zero : c .answer ≡ 0 → (c .found ≤ capacity) × (c .kept ≤ c .found) × (0 < c .kept)
@@ -34,7 +35,13 @@ verdict-counted capacity candidates few = go (ltb capacity (length candidates)) 
     go false true e f =
         let below : length candidates ≤ capacity = ltb-false _ _ e in
         let kept : 0 < length (ranked candidates) = ltb-true _ _ f in
-        rw (e, f) (record { answers = inl refl; zero = λ z. (below, ranked-few candidates, kept); seven = λ z. absurd (omega arith); eight = λ z. absurd (omega arith) })
+        rw (e, f) (record {
+          answers = inl refl;
+          zero = λ z. (below, ranked-few candidates, kept);
+          seven = λ z. absurd
+              (omega arith);
+          eight = λ z. absurd (omega arith);
+        })
     go false false e f =
         let below : length candidates ≤ capacity = ltb-false _ _ e in
         rw (e, f) (record { answers = inr (inr refl); zero = λ z. absurd (omega arith); seven = λ z. absurd (omega arith); eight = λ z. (below, refl) })

@@ -2,7 +2,7 @@
 ghost use mathlib.Core.List.{List};
 ghost use Prim.Native.Nat.{_^_, _<_};
 ghost use Rattle.records.specs.Records.{Record};
-ghost use Rattle.detector_verdict.specs.Verdict.{Judgeable, Holds, Judged};
+ghost use Rattle.detector_verdict.specs.VerdictClauses.{Judgeable, Holds, Judged};
 ghost use mathlib.Core.Path.{_≡_};
 
 // What a search reports: its answer, the sweep's candidates, and those kept.
@@ -26,7 +26,8 @@ fn counted(answer: u32, found: usize, kept: usize) -> Counts
 // The verdict on the sweep's candidates, of which the buffer holds those up to the capacity. Records from the kept ones to the capacity become zeros.
 pub fn verdict(records: &mut [u32], found: usize, capacity: usize) -> Counts
     requires { ⌜ Judgeable capacity found (now records) ⌝ }
-    ensures { λ r. ⌜ ((candidates : List Record) → Holds capacity found (now (records .entry)) candidates → Judged capacity candidates (now (records .entry)) r (now (records .exit))) ⌝ }
+    ensures { λ r. ⌜ ((candidates : List Record) → Holds capacity found (now (records .entry)) candidates
+        → Judged capacity candidates (now (records .entry)) r (now (records .exit))) ⌝ }
 {
     if found > capacity {
         records::clear(records, 0, 40 * capacity);

@@ -3,7 +3,8 @@
 use mathlib.Core.Path.{_≡_, refl, sym, ap, _∙_}
 use mathlib.Core.Bool.{Bool, true, false, not, cond, true≢false}
 use Prim.Native.Nat.{ℕ, zero, suc, _+_, _-_, _*_, _^_, _≤_, _<_}
-use native.Mathlib.Nat.{le-trans, le-of-eq, mul-comm, mul-assoc, mul-one, zero-mul, mul-zero, mul-right-comm, mul-mul-mul-comm, mul-le-mul-right, le-of-mul-le-mul-right, mul-pos, le-div-iff-mul-le, mul-sub, add-mul}
+use native.Mathlib.Nat.{le-trans, le-of-eq, mul-comm, mul-assoc, mul-one, zero-mul, mul-zero, mul-right-comm, mul-mul-mul-comm, mul-sub, add-mul}
+use native.Mathlib.Nat.{mul-le-mul-right, le-of-mul-le-mul-right, mul-pos, le-div-iff-mul-le}
 use native.Mathlib.Omega.{arith}
 use lib.Dec.{T, ltb}
 use lib.Pow.{pow-pos}
@@ -34,7 +35,9 @@ far-of-le n lo z N v h = go z h (above-of-le lo z P h)
     go (inf true) h a = absurd a
     go (inf false) h a = refl
     go (fin true m e) h a = absurd a
-    go (fin false m e) h a = (refl, le-trans (values-of-le lo (fin false m e) n 1 (m * up e) (down e) P a v (own-value (fin false m e) a) h) (le-of-eq (mul-one (m * up e))))
+    go (fin false m e) h a =
+        let least = values-of-le lo (fin false m e) n 1 (m * up e) (down e) P a v (own-value (fin false m e) a) h in
+        (refl, le-trans least (le-of-eq (mul-one (m * up e))))
 
 -- the sign goes through `round`
 resign-odd : (d : ℕ) (s : Bool) (q k l n : ℕ) → Far false n (odd d false q k l) → Far s n (odd d s q k l)
@@ -71,7 +74,8 @@ like true false s p q = p
 like false true s p q = absurd (true≢false q)
 like false false s p q = p
 
-pub mul-far : (s : Bool) (x y : Float) (u v k n : ℕ) → HasValue x s u v → HasValue y false k 1 → 0 < v → 0 < n → n ≤ 2 ^ 24 → n * v ≤ u * k → Far s n (mul binary32 x y)
+pub mul-far : (s : Bool) (x y : Float) (u v k n : ℕ) → HasValue x s u v → HasValue y false k 1 → 0 < v → 0 < n → n ≤ 2 ^ 24
+    → n * v ≤ u * k → Far s n (mul binary32 x y)
 unfolding mul
 mul-far s nan y u v k n p q P N small h = absurd p
 mul-far s (inf t) y u v k n p q P N small h = absurd p
@@ -81,7 +85,8 @@ mul-far s (fin t m e) (fin w m' d) u v k n p q P N small h =
     let c = down e * down d in
     let big : n * c ≤ m * up e * (m' * up d) =
     le-of-mul-le-mul-right
-    (le-trans (le-of-eq (mul-right-comm n c v)) (le-trans (mul-le-mul-right c h) (le-of-eq (sym (swap (m * up e) u (m' * up d) k (down e) (down d) v (p .1) (q .1)))))) P
+    (le-trans (le-of-eq (mul-right-comm n c v))
+    (le-trans (mul-le-mul-right c h) (le-of-eq (sym (swap (m * up e) u (m' * up d) k (down e) (down d) v (p .1) (q .1)))))) P
     in
     rw (like t w s (p .0) (q .0)) (round-far s n (m * up e * (m' * up d)) c N small (mul-pos (down-pos e) (down-pos d)) big)
 

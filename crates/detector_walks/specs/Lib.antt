@@ -1,4 +1,7 @@
+-- `Walks` has the definitions, `WalksClauses` what the clauses of functions name. `StepsLaws`, `FarLaws` and `WalksLaws` say why a walk ends, `Examples` what
+-- walks read.
 pub mod Walks
+pub mod WalksClauses
 pub mod StepsLaws
 pub mod FarLaws
 pub mod WalksLaws

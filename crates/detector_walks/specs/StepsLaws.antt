@@ -13,10 +13,20 @@ use Rattle.bit_matrix.specs.declared.Shape.{Shape}
 use Rattle.bit_matrix.specs.Shape.{shapeOf, size, Limits}
 use Rattle.sines.specs.declared.Angle.{Angle}
 use Rattle.sines.specs.Sines.{sineOf, angleOf}
-use Rattle.sines.specs.Rules.{scaled, scaledSine, scaledCosine, negative}
-use Rattle.sines.specs.Laws.{sine-mod, sine-mod-add, sine-rules}
+use Rattle.sines.specs.Laws.{scaled, scaledSine, scaledCosine, negative, sine-mod, sine-mod-add, sine-rules}
 use Rattle.sines.specs.Every.{every, every-at}
-use Rattle.detector_walks.specs.Walks.{stepsOf, stepsRight, OfDegree}
+use Rattle.detector_walks.specs.WalksClauses.{OfDegree}
+
+-- Within so many steps a walk to the right has ended, by the sine in units of 2 ^ -29. Where it is 0 the row stays, and the columns of all words are
+-- passed, at 180 degrees after the way to column 0. Where the rows grow, 2,048 are passed. Where they fall, they grow again from row 0: at most as
+-- many more.
+unfoldable pub stepsOf : Shape → ℤ → ℕ
+stepsOf shape (pos zero) = 64 * size shape + 4096
+stepsOf shape (pos (suc n)) = 2048 * 2 ^ 29 / suc n + 1
+stepsOf shape (negsuc n) = 4096 * 2 ^ 29 / suc n + 1
+
+abbrev pub stepsRight : Shape → Angle → ℕ
+stepsRight shape angle = stepsOf shape (scaled (angle .sin))
 
 -- ---- steps of n units each pass so many units
 pub steps-reach : (n far : ℕ) → far ≤ suc n * (far / suc n + 1)

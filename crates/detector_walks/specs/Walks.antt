@@ -1,18 +1,13 @@
--- `find_width_at_degree` of detector.rs: the walks to the left and to the right as reading programs, which points they look at, where they end, and in how
--- many steps to the right at most. Definitions only. Assumes nothing.
-use Prim.Native.Nat.{ℕ, zero, suc, _+_, _*_, _/_, _^_}
+-- `find_width_at_degree` of detector.rs: the walks to the left and to the right as reading programs, which points they look at and where they end.
+-- Definitions only. Assumes nothing.
+use Prim.Native.Nat.{ℕ, zero, suc, _+_, _^_}
 use mathlib.Core.Bool.{Bool, true, false, not, cond}
-use mathlib.Core.List.{List}
-use mathlib.Core.Path.{_≡_}
-use lib.IntN.{ℤ, pos, negsuc}
-use lib.Ieee.{Float, toUnsigned}
+use lib.Ieee.{toUnsigned}
 use Rattle.reads.specs.Reads.{Reads, done, _>>=_}
 use Rattle.bit_matrix.specs.declared.Shape.{Shape}
-use Rattle.bit_matrix.specs.Shape.{size, Image, Inside}
 use Rattle.bit_matrix.specs.Pixels.{pixel, outOfRange}
 use Rattle.sines.specs.declared.Angle.{Angle}
-use Rattle.sines.specs.Sines.{sines, angleOf}
-use Rattle.sines.specs.Rules.{scaled}
+use Rattle.sines.specs.Sines.{angleOf}
 use Rattle.rxing_result_point.specs.declared.Point.{Point}
 use Rattle.rxing_result_point.specs.declared.PointU.{PointU}
 use Rattle.rxing_result_point.specs.Points.{turned}
@@ -25,17 +20,6 @@ walkPoint center angle x = turned center (record { x = x; y = center .y }) angle
 -- the first column of a walk to the left, or to the right
 abbrev pub firstColumn : PointU → Bool → ℕ
 firstColumn center left = cond left (center .x) (center .x + 1)
-
--- Within so many steps a walk to the right has ended (`right-ends`, WalksLaws.antt), by the sine in units of 2 ^ -29. Where it is 0 the row stays, and the
--- columns of all words are passed, at 180 degrees after the way to column 0. Where the rows grow, 2,048 are passed. Where they fall, they grow again from row
--- 0: at most as many more.
-unfoldable pub stepsOf : Shape → ℤ → ℕ
-stepsOf shape (pos zero) = 64 * size shape + 4096
-stepsOf shape (pos (suc n)) = 2048 * 2 ^ 29 / suc n + 1
-stepsOf shape (negsuc n) = 4096 * 2 ^ 29 / suc n + 1
-
-abbrev pub stepsRight : Shape → Angle → ℕ
-stepsRight shape angle = stepsOf shape (scaled (angle .sin))
 
 module _ (shape : Shape) where
   -- the loops' test: in range and white
@@ -64,29 +48,14 @@ module _ (shape : Shape) where
       white ← whitePoint (walkPoint center angle x)
       cond white (rightFrom fuel (x + 1)) (done (walkPoint center angle x))
 
-    -- the walk to the left (true), or to the right
+    -- the walk to the left (true), or to the right, which ends before its steps are used up (`right-ends`, WalksLaws.antt)
     unfoldable pub walk : Bool → Reads Point
     walk true = leftFrom (firstColumn center true)
-    walk false = rightFrom (stepsRight shape angle) (firstColumn center false)
-
-    -- both walks
-    unfoldable pub findEnds : Reads Ends
-    findEnds = do
-      left ← walk true
-      right ← walk false
-      done (record { left = left; right = right })
+    walk false = rightFrom (2 ^ 20) (firstColumn center false)
 
   -- `find_width_at_degree`
-  abbrev pub findWidthAtDegree : PointU → ℕ → Reads Ends
-  findWidthAtDegree center degree = findEnds center (angleOf degree)
-
--- what a step about a centre is lent: an image, a centre inside it, and the table of sines
-pub record Lent (shape : Shape) (words marks : List ℕ) (center : PointU) (table : List Float) : Type 0 where
-  pub image : Image shape words marks
-  pub inside : Inside shape (center .x) (center .y)
-  pub table-is : table ≡ sines
-
--- the angle of some degree
-pub record OfDegree (angle : Angle) : Type 0 where
-  pub degree : ℕ
-  pub is : angle ≡ angleOf degree
+  unfoldable pub findWidthAtDegree : PointU → ℕ → Reads Ends
+  findWidthAtDegree center degree = do
+    left ← walk center (angleOf degree) true
+    right ← walk center (angleOf degree) false
+    done (record { left = left; right = right })

@@ -17,7 +17,7 @@ use lib.Ieee.Back.{round-whole}
 use borrow.Author.Tests.{le-leb}
 use Rattle.sines.specs.declared.Angle.{Angle}
 use Rattle.sines.specs.Sines.{angleOf}
-use Rattle.sines.specs.Rules.{scaled, negative}
+use Rattle.sines.specs.Laws.{scaled, negative}
 use Rattle.rxing_result_point.specs.declared.Point.{Point}
 use Rattle.rxing_result_point.specs.declared.PointU.{PointU}
 use Rattle.rxing_result_point.specs.Points.{real, past, turned}
@@ -29,8 +29,9 @@ use Rattle.bit_matrix.specs.declared.Shape.{Shape}
 use Rattle.bit_matrix.specs.Shape.{size, Limits, Inside}
 use Rattle.bit_matrix.specs.ShapeLaws.{image-kept}
 use Rattle.bit_matrix.specs.Pixels.{offset}
-use Rattle.detector_walks.specs.Walks.{walkPoint, whitePixel, whitePoint, rightFrom, walk, stepsOf, stepsRight, OfDegree, Lent}
-use Rattle.detector_walks.specs.StepsLaws.{steps-reach, steps-some, steps-few, rules}
+use Rattle.detector_walks.specs.Walks.{walkPoint, whitePixel, whitePoint, rightFrom, walk}
+use Rattle.detector_walks.specs.WalksClauses.{OfDegree, Lent}
+use Rattle.detector_walks.specs.StepsLaws.{stepsOf, stepsRight, steps-reach, steps-some, steps-few, rules}
 use Rattle.detector_walks.specs.FarLaws.{mul-far, sub-whole, mul-zero-value, add-zero-far, sub-zero-far, add-far, add-back-far, cell-far}
 
 -- ---- row and column, from what is known of the sine, the cosine and the two differences: c is the centre's row or column
@@ -46,12 +47,14 @@ module _ (sin cos u v : Float) (s t : Bool) (U W k c : ℕ) (sine : HasValue sin
       let flat = mul-zero-value t cos v W (2 ^ 29) cosine level in
       let a = mul-far false sin u U (2 ^ 29) k 2048 (rw e at sine) right (pow-pos 29) (omega arith) (omega arith) h in
       let b = add-zero-far false t (mul binary32 sin u) (mul binary32 cos v) 2048 (omega arith) (omega arith) a flat in
-      cell-far false _ 2048 (omega arith) (add-far (add binary32 (mul binary32 sin u) (mul binary32 cos v)) (real c) 2048 c (omega arith) (omega arith) b real-value)
+      cell-far false _ 2048 (omega arith)
+      (add-far (add binary32 (mul binary32 sin u) (mul binary32 cos v)) (real c) 2048 c (omega arith) (omega arith) b real-value)
   row-far true e h =
       let flat = mul-zero-value t cos v W (2 ^ 29) cosine level in
       let a = mul-far true sin u U (2 ^ 29) k (2048 + c) (rw e at sine) right (pow-pos 29) (omega arith) (omega arith) (omega arith) in
       let b = add-zero-far true t (mul binary32 sin u) (mul binary32 cos v) (2048 + c) (omega arith) (omega arith) a flat in
-      cell-far true _ 2048 (omega arith) (add-back-far (add binary32 (mul binary32 sin u) (mul binary32 cos v)) (real c) 2048 c (omega arith) (omega arith) b real-value)
+      cell-far true _ 2048 (omega arith)
+      (add-back-far (add binary32 (mul binary32 sin u) (mul binary32 cos v)) (real c) 2048 c (omega arith) (omega arith) b real-value)
 
   column-far : (z : Bool) (n : ℕ) → t ≡ z → W ≡ 2 ^ 29 → 0 < n → n + c ≤ k → k ≤ 2 ^ 24
       → n ≤ toUnsigned 32 (abs (add binary32 (sub binary32 (mul binary32 cos u) (mul binary32 sin v)) (real c)))
@@ -95,23 +98,24 @@ module _ (shape : Shape) (center : PointU) (angle : Angle) (words : List ℕ) wh
   from-step fuel x e =
       valueOf-bind (whitePoint shape (walkPoint center angle x)) (next fuel x) words ∙ ap (λ (b : Bool). valueOf (next fuel x b) words) e
 
-  abbrev EndsFrom : ℕ → ℕ → Type 0
-  EndsFrom fuel x = EndsAt x (suc fuel) (valueOf (rightFrom shape center angle (suc fuel) x) words)
+  -- within the first fuel + 1 of n + 1 steps
+  abbrev EndsFrom : ℕ → ℕ → ℕ → Type 0
+  EndsFrom fuel n x = EndsAt x (suc fuel) (valueOf (rightFrom shape center angle (suc n) x) words)
 
-  ends-here : (fuel x : ℕ) → whiteAt x ≡ false → EndsFrom fuel x
+  ends-here : (fuel n x : ℕ) → whiteAt x ≡ false → EndsFrom fuel n x
   unfolding valueOf value
-  ends-here fuel x e = record {
+  ends-here fuel n x e = record {
     column = x;
     least = omega arith;
     most = omega arith;
     stops = e;
     passes = λ z low high. absurd (omega arith);
-    is = from-step fuel x e;
+    is = from-step n x e;
   }
 
-  ends-later : (fuel x : ℕ) → EndsFrom fuel (x + 1) → (b : Bool) → whiteAt x ≡ b → EndsFrom (suc fuel) x
-  ends-later fuel x rest false e = ends-here (suc fuel) x e
-  ends-later fuel x rest true e =
+  ends-later : (fuel n x : ℕ) → EndsFrom fuel n (x + 1) → (b : Bool) → whiteAt x ≡ b → EndsFrom (suc fuel) (suc n) x
+  ends-later fuel n x rest false e = ends-here (suc fuel) (suc n) x e
+  ends-later fuel n x rest true e =
       let at : (z : ℕ) → x ≤ z → z < rest .column → whiteAt z ≡ true =
       λ z low high. elim (eq-or-lt-of-le low) [
         | inl same ↦ ap whiteAt (sym same) ∙ e
@@ -123,12 +127,13 @@ module _ (shape : Shape) (center : PointU) (angle : Angle) (words : List ℕ) wh
         most = omega (arith, rest .most);
         stops = rest .stops;
         passes = at;
-        is = from-step (suc fuel) x e ∙ rest .is;
+        is = from-step (suc n) x e ∙ rest .is;
       }
 
-  from-ends : (fuel x : ℕ) → whiteAt (x + fuel) ≡ false → EndsFrom fuel x
-  from-ends zero x stop = ends-here zero x (ap whiteAt (omega arith) ∙ stop)
-  from-ends (suc fuel) x stop = ends-later fuel x (from-ends fuel (x + 1) (ap whiteAt (omega arith) ∙ stop)) (whiteAt x) refl
+  from-ends : (fuel n x : ℕ) → fuel ≤ n → whiteAt (x + fuel) ≡ false → EndsFrom fuel n x
+  from-ends zero n x h stop = ends-here zero n x (ap whiteAt (omega arith) ∙ stop)
+  from-ends (suc fuel) zero x h stop = absurd (omega arith)
+  from-ends (suc fuel) (suc n) x h stop = ends-later fuel n x (from-ends fuel n (x + 1) (omega arith) (ap whiteAt (omega arith) ∙ stop)) (whiteAt x) refl
 
 -- ---- past the last word
 module _ {shape : Shape} (limits : Limits shape) (x y : ℕ) where
@@ -202,9 +207,11 @@ right-ends {shape} limits center inside degree words =
     let some = steps-some shape (scaled (angle .sin)) in
     let last : center .x + steps ≡ center .x + 1 + (steps - 1) = omega (arith, some) in
     let all : suc (steps - 1) ≡ steps = omega (arith, some) in
-    let stop = walk-stops limits center inside (record { degree = degree; is = refl }) words in
-    subst (λ (n : ℕ). EndsAt shape center angle words (center .x + 1) n (valueOf (rightFrom shape center angle n (center .x + 1)) words)) all
-    (from-ends shape center angle words (steps - 1) (center .x + 1) (ap (whiteAt shape center angle words) (sym last) ∙ stop))
+    let of : OfDegree angle = record { degree = degree; is = refl } in
+    let stop = walk-stops limits center inside of words in
+    subst (λ (n : ℕ). EndsAt shape center angle words (center .x + 1) n (valueOf (walk shape center angle false) words)) all
+    (from-ends shape center angle words (steps - 1) (2 ^ 20 - 1) (center .x + 1) (omega (arith, steps-few of limits))
+    (ap (whiteAt shape center angle words) (sym last) ∙ stop))
 
 -- ---- what a step is lent, with the marks that it leaves
 pub lent-on : {shape : Shape} {words marks after : List ℕ} {center : PointU} {table : List Float} → Lent shape words marks center table

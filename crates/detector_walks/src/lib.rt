@@ -7,9 +7,10 @@ use rxing_result_point::PointU;
 use sines::Angle;
 ghost use mathlib.Core.Path.{_≡_};
 ghost use Prim.Native.Nat.{_+_, _^_, _≤_, _<_};
-ghost use Rattle.reads.specs.Runs.{Ran};
+ghost use Rattle.reads.specs.RunsClauses.{Ran};
 ghost use Rattle.bit_matrix.specs.Shape.{Image, Inside};
-ghost use Rattle.detector_walks.specs.Walks.{walkPoint, whitePixel, whitePoint, firstColumn, walk, findWidthAtDegree, OfDegree, Lent};
+ghost use Rattle.detector_walks.specs.Walks.{walkPoint, whitePixel, whitePoint, firstColumn, walk, findWidthAtDegree};
+ghost use Rattle.detector_walks.specs.WalksClauses.{OfDegree, Lent};
 
 // The points where the two walks at a degree end.
 pub struct Ends {

@@ -1,6 +1,8 @@
--- `Widths` has the definitions, and `Buckets` a run that grows. `SameTest` and `SameWidths` say that the two tests are one, by `RoundedOrder`.
+-- `Widths` has the definitions, and `Buckets` a run that grows. `WidthsF32` has the source's test, and `SameTestLaws` and `SameWidthsLaws` say that the two are
+-- one, by `RoundedOrderLaws`.
 pub mod Widths
+pub mod WidthsF32
 pub mod Buckets
-pub mod RoundedOrder
-pub mod SameTest
-pub mod SameWidths
+pub mod RoundedOrderLaws
+pub mod SameTestLaws
+pub mod SameWidthsLaws

@@ -1,5 +1,5 @@
 // `validate_bullseye_widths` of detector.rs: whether eleven runs are as wide as a bull's-eye's. In whole numbers, and
-// equal to the source's f32 test (`same-widths`, specs/SameWidths.antt).
+// equal to the source's f32 test (`same-widths`, specs/SameWidthsLaws.antt).
 ghost use mathlib.Core.Path.{_≡_};
 ghost use Prim.Native.Nat.{_^_, _<_};
 ghost use Rattle.detector_widths.specs.Widths.{at, passes, evenRunsPass, oddRunsPass, validWidths};

@@ -5,7 +5,7 @@ use mathlib.Core.List.{List}
 use lib.Dec.{eqb}
 use lib.ListN.{replicate}
 use Rattle.crop.specs.Crop.{refusal, fileWords}
-use Rattle.text.specs.Text.{runText}
+use Rattle.text_run.specs.RunText.{runText}
 use Rattle.detector.specs.Detector.{Run, fileRun}
 
 -- those of the image, or none where the file is refused

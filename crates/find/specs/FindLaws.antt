@@ -2,7 +2,7 @@
 use Prim.Native.Nat.{ℕ, zero, suc, _*_, _≤_, _<_}
 use native.Mathlib.Nat.{mul-assoc, mul-le-mul-right}
 use native.Mathlib.Omega.{arith}
-use mathlib.Core.Bool.{Bool, true, false, cond}
+use mathlib.Core.Bool.{Bool, true, false, cond, _||_}
 use mathlib.Core.List.{List, [], _∷_}
 use mathlib.Core.Path.{_≡_, refl, sym, ap, _∙_}
 use borrow.Author.Tests.{eqb-true, ltb-true, ltb-false, eq-eqb, ne-eqb}
@@ -10,11 +10,13 @@ use lib.Dec.{eqb, ltb}
 use lib.ListN.{length, take, replicate}
 use lib.Seq.{take-all}
 use Rattle.bit_matrix.specs.Shape.{rowWords, shapeOf, size}
-use Rattle.crop.specs.Crop.{rowBytes, fileShape, fileWords, width, height, orElse, unpackRoom, searchRoom, refusal, fileRefusal, fileKind, leastSide, Checks}
-use Rattle.crop.specs.CropLaws.{file-accepted, checked-shape, file-accepted-by}
+use Rattle.crop_sizes.specs.Sizes.{rowBytes, leastSide, misfit}
+use Rattle.crop.specs.Crop.{fileShape, fileWords, width, height, noRoom, refusal, fileRefusal, fileKind}
+use Rattle.crop.specs.CropClauses.{Checks, orSix}
+use Rattle.crop.specs.CropLaws.{file-accepted, refusal-six, checked-shape, file-accepted-by}
 use Rattle.crop.specs.declared.Checked.{Checked}
 use Rattle.crop.specs.PrefixLaws.{refusal-prefix}
-use Rattle.detector.specs.Detector.{run, FileRun, filed, refusedRun, refusedOr, fileRun}
+use Rattle.detector.specs.Detector.{run, FileRun, filed, refusedReport, refusedOr, fileRun}
 use Rattle.detector.specs.DetectorLaws.{file-few}
 use Rattle.detector.specs.declared.Report.{Report}
 use Rattle.text.specs.Text.{Puts}
@@ -37,12 +39,16 @@ lent-by {c} {n} is file checks = go (eqb (c .answer) 0) refl
 
 -- the lent words fit, and 400 records are buffer enough: no answer is 6
 pub never-six : (file : List ℕ) → fileRefusal file (lentWords file) (lentWords file) 16000 ≡ refusal file
-unfolding fileRefusal lentWords orElse unpackRoom searchRoom
-never-six file = go (eqb (refusal file) 0) refl
+unfolding lentWords orSix
+never-six file = refusal-six fileKind leastSide file _ ∙ go (eqb (refusal file) 0) refl
   where
-    go : (b : Bool) → eqb (refusal file) 0 ≡ b → fileRefusal file (lentWords file) (lentWords file) 16000 ≡ refusal file
-    go true e = rw (e, eq-eqb (fileWords file) (fileWords file) refl) (sym (eqb-true _ _ e))
-    go false e = rw (e, e) refl
+    lent : Bool → ℕ
+    lent b = cond b (fileWords file) 0
+
+    go : (b : Bool) → eqb (refusal file) 0 ≡ b
+        → cond b (cond (misfit (lent b) (fileWords file) || noRoom (fileWords file) (lent b) 16000) 6 0) (refusal file) ≡ refusal file
+    go true e = rw (eq-eqb (fileWords file) (fileWords file) refl) (sym (eqb-true _ _ e))
+    go false e = refl
 
 -- the buffer has room for 400 records, and no more are kept
 pub kept-few : (file words records marks : List ℕ) {words′ records′ marks′ : List ℕ} {r : Report}
@@ -69,7 +75,7 @@ puts-printed file lent size zeros searched puts =
 
 refused-long : (file : List ℕ) → 65536 < length file → refusal file ≡ 0 → ⊥
 refused-long file long number =
-    let ready = file-accepted leastSide (omega arith) fileKind file number in
+    let ready = file-accepted leastSide (omega arith) fileKind file _ number in
     let w : ℕ = width file in
     let h : ℕ = height file in
     omega (
@@ -81,11 +87,12 @@ refused-long file long number =
     )
 
 -- the run of a refused file
-refused-run : (file words records marks : List ℕ) (n : ℕ) → refusal file ≡ n → (n ≡ 0 → ⊥) → fileRun file words records marks ≡ filed words (refusedRun records marks n)
-unfolding fileRun fileRefusal orElse refusedOr
-refused-run file words records marks n e refused = rw (e, ne-eqb n 0 refused, ne-eqb n 0 refused, ne-eqb n 0 refused) refl
+refused-run : (file words records marks : List ℕ) (n : ℕ) → refusal file ≡ n → (n ≡ 0 → ⊥)
+    → fileRun file words records marks ≡ filed words (run (refusedReport n) records marks)
+unfolding fileRun orSix refusedOr
+refused-run file words records marks n e refused = rw (refusal-six, e, ne-eqb n 0 refused, ne-eqb n 0 refused) refl
 
-printed-refused : (file : List ℕ) (n : ℕ) → refusal file ≡ n → (n ≡ 0 → ⊥) → printed file ≡ textOf (refusedRun (replicate 16000 0) [] n)
+printed-refused : (file : List ℕ) (n : ℕ) → refusal file ≡ n → (n ≡ 0 → ⊥) → printed file ≡ textOf (run (refusedReport n) (replicate 16000 0) [])
 unfolding printed
 printed-refused file n e refused =
     let lent : List ℕ = replicate (lentWords file) 0 in

@@ -4,10 +4,11 @@ ghost use mathlib.Core.List.{List};
 ghost use Prim.Native.Nat.{ℕ, _≤_};
 ghost use lib.ListN.{length};
 ghost use Rattle.bit_matrix.specs.Shape.{rowWords};
-ghost use Rattle.crop.specs.Crop.{Checks};
+ghost use Rattle.crop.specs.CropClauses.{Checks};
 ghost use Rattle.text.specs.Text.{Puts};
 ghost use Rattle.find.specs.Find.{lentWords, printed};
 use crop::Checked;
+use libc::STDERR_FILENO;
 use libc::STDIN_FILENO;
 use libc::STDOUT_FILENO;
 
@@ -16,7 +17,7 @@ fn lent_words(checked: Checked) -> usize
     requires { ⌜ checked .shape .«row_words» ≡ rowWords (checked .shape .width) ⌝ }
     ensures { λ r. ⌜ ((file : List ℕ) → Checks file checked → (r ≡ lentWords file) × (r ≤ 8000)) ⌝ }
 {
-    crop::image_words(checked.shape)
+    crop_sizes::image_words(checked.shape)
 }
 
 // All that is printed of a crop file: it is checked and searched, and its lines are put into a buffer.
@@ -36,7 +37,7 @@ fn put_lines(file: &[u8], text: &mut [u8]) -> usize
         &mut records,
         &mut marks[..size],
     );
-    text::put_run(
+    text_run::put_run(
         text,
         report.answer,
         report.found,
@@ -46,11 +47,28 @@ fn put_lines(file: &[u8], text: &mut [u8]) -> usize
     )
 }
 
+// Whether standard input has ended: the read after its last byte gives none, where one that fails gives a negative number.
+fn has_ended() -> bool {
+    let mut byte = [0u8; 1];
+    libc::read(STDIN_FILENO, &mut byte) == 0
+}
+
+// What could not be done, on standard error: a program has no exit status.
+fn complain(line: &[u8]) {
+    io::write_all(STDERR_FILENO, line);
+}
+
 // Of a longer input 65,536 bytes are read: no accepted crop has more than 64,004, and the rest does not change what is printed.
 fn main() {
     let mut input = io::large_buffer();
     let n = io::read_full(STDIN_FILENO, &mut input);
+    if n < 65536 && !has_ended() {
+        complain(b"find: standard input cannot be read\n");
+        return;
+    }
     let mut text = [0u8; 80080];
     let end = put_lines(&input[..n], &mut text);
-    io::write_all(STDOUT_FILENO, &text[..end]);
+    if !io::write_all(STDOUT_FILENO, &text[..end]) {
+        complain(b"find: standard output cannot be written\n");
+    }
 }

@@ -29,7 +29,8 @@ double s m (negsuc k) b =
     let j = 1075 - suc k in
     let all : j + suc k ≡ 1075 = omega arith in
     let e : 2 ^ j * 2 ^ suc k ≡ 2 ^ 1075 = sym (pow-add 2 j (suc k)) ∙ ap (λ (n : ℕ). 2 ^ n) all in
-    round-exact binary64 s (m * 1 * 2) (2 ^ suc k * 1) m j (subst (λ (n : ℕ). 0 < n) (sym (mul-one (2 ^ suc k))) (down-pos (negsuc k))) (lt-of-lt-of-le (b .digits) (pow-mono {i = 24} {j = 53} (omega arith)))
+    round-exact binary64 s (m * 1 * 2) (2 ^ suc k * 1) m j (subst (λ (n : ℕ). 0 < n) (sym (mul-one (2 ^ suc k))) (down-pos (negsuc k)))
+    (lt-of-lt-of-le (b .digits) (pow-mono {i = 24} {j = 53} (omega arith)))
     (lt-of-lt-of-le (shl-lt 24 j (b .digits)) (pow-mono {i = 24 + j} {j = 2098} (omega arith)))
     (ap (λ (n : ℕ). n * 2 * 2 ^ 1074) (mul-one m)
     ∙ mul-assoc m 2 (2 ^ 1074)
@@ -64,14 +65,17 @@ twice-halved nan t = refl
 twice-halved (inf true) t = refl
 twice-halved (inf false) t = refl
 twice-halved (fin true m e) t =
-    ap halved (cast-value 64 (round binary64 true (m * up e * 2) (down e * 1)) true (m * up e * 2) (down e * 1) (positive e) (double true m e (bounds binary32 true m e t)))
+    ap halved (cast-value 64 (round binary64 true (m * up e * 2) (down e * 1)) true (m * up e * 2) (down e * 1) (positive e)
+    (double true m e (bounds binary32 true m e t)))
     ∙ sym (cast-value 32 (roundTiesToAway binary32 (fin true m e)) true (halfUp (m * up e) (down e)) 1 (omega arith) (ties-value binary32 true m e t))
 twice-halved (fin false m e) t =
-    ap halved (cast-value 64 (round binary64 false (m * up e * 2) (down e * 1)) false (m * up e * 2) (down e * 1) (positive e) (double false m e (bounds binary32 false m e t)))
+    ap halved (cast-value 64 (round binary64 false (m * up e * 2) (down e * 1)) false (m * up e * 2) (down e * 1) (positive e)
+    (double false m e (bounds binary32 false m e t)))
     ∙ halved-cap (m * up e * 2 / (down e * 1))
     ∙ ap (λ (n : ℕ). min n (2 ^ 32 - 1)) (halves (m * up e) (down e) (down-pos e) ∙ sym (div-one (halfUp (m * up e) (down e))))
     ∙ sym (cast-value 32 (roundTiesToAway binary32 (fin false m e)) false (halfUp (m * up e) (down e)) 1 (omega arith) (ties-value binary32 false m e t))
 
 -- for a program that has y, the `f32` x at the wider format, and t, the cast of 2y
-pub rounded : (t : ℕ) (x y : Float) → T (fits binary32 x) → y ≡ x → t ≡ toUnsigned 64 (mul binary64 y (fin false 1 (pos 1))) → halved t ≡ toUnsigned 32 (roundTiesToAway binary32 x)
+pub rounded : (t : ℕ) (x y : Float) → T (fits binary32 x) → y ≡ x → t ≡ toUnsigned 64 (mul binary64 y (fin false 1 (pos 1)))
+    → halved t ≡ toUnsigned 32 (roundTiesToAway binary32 x)
 rounded t x y fit e h = ap halved (h ∙ ap (λ (z : Float). toUnsigned 64 (mul binary64 z (fin false 1 (pos 1)))) e) ∙ twice-halved x fit

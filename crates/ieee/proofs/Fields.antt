@@ -13,7 +13,7 @@ use lib.Ieee.Exact.{HasValue, odd-sign}
 use lib.Ieee.Bits.{ofBits-toBits}
 use lib.Ieee.Positive.{positive, value-pos}
 use borrow.Author.Tests.{eqb-false}
-use Rattle.ieee.specs.Sqrt.{unitsOf}
+use Rattle.ieee.specs.Units.{unitsOf}
 use Rattle.ieee.proofs.Units.{units-of-value}
 
 -- ---- what a program's tests say: x is above 0 and below the infinity
@@ -116,7 +116,8 @@ pattern x fit p = go (toBits binary64 x) (plain-fields binary64 x fit p)
         high-value h e = (subst (λ (y : ℕ). InFields binary64 x false y (b % 2 ^ 52)) e (is .fields)) .value
 
         low-value : b / 2 ^ 52 ≡ 0 → HasValue x false (b * 1) (2 ^ 1074)
-        low-value z = subst (λ (k : ℕ). HasValue x false (k * 1) (2 ^ 1074)) (omega arith) ((subst (λ (y : ℕ). InFields binary64 x false y (b % 2 ^ 52)) z (is .fields)) .value)
+        low-value z = subst (λ (k : ℕ). HasValue x false (k * 1) (2 ^ 1074)) (omega arith)
+            ((subst (λ (y : ℕ). InFields binary64 x false y (b % 2 ^ 52)) z (is .fields)) .value)
 
         low-plus : b / 2 ^ 52 ≡ 0 → HasValue x false b (2 ^ 1074)
         low-plus z = subst (λ (k : ℕ). HasValue x false k (2 ^ 1074)) (mul-one b) (low-value z)

@@ -1,7 +1,19 @@
--- `floor` and `roundTiesToAway` write down a whole number that the format holds, so a cast of either gives that number, capped. And a cast sees no difference between a float and its floor.
+-- `floor` and `roundTiesToAway` write down a whole number that the format holds, so a cast of either gives that number, capped. And a cast sees no
+-- difference between a float and its floor.
 -- Assumes nothing.
 use Prim.Native.Nat.{ℕ, zero, suc, _+_, _-_, _*_, _/_, _^_, _≤_, _<_, min}
-use native.Mathlib.Nat.{mul-one, mul-assoc, mul-comm, div-one, div-le-self, div-lt-iff-lt-mul, lt-of-lt-of-le, lt-of-le-of-lt, mul-le-mul-left, mul-lt-mul-of-pos-right}
+use native.Mathlib.Nat.{
+  mul-one,
+  mul-assoc,
+  mul-comm,
+  div-one,
+  div-le-self,
+  div-lt-iff-lt-mul,
+  lt-of-lt-of-le,
+  lt-of-le-of-lt,
+  mul-le-mul-left,
+  mul-lt-mul-of-pos-right,
+}
 use native.Mathlib.Omega.{arith}
 use mathlib.Core.Path.{_≡_, refl, sym, ap, _∙_, subst}
 use mathlib.Core.Bool.{Bool, true, false, cond}
@@ -21,7 +33,8 @@ write-down f s q j small fine =
     let e : q * 2 ^ j * 2 ^ low f ≡ q * 2 ^ (j + low f) = mul-assoc q (2 ^ j) (2 ^ low f) ∙ ap (λ (z : ℕ). q * z) (sym (pow-add 2 j (low f))) in
     round-exact f s (q * 2 ^ j) 1 q (j + low f) (omega arith) small
     (subst (λ (z : ℕ). z < 2 ^ (low f + suc (emax f))) e
-    (subst (λ (z : ℕ). q * 2 ^ j * 2 ^ low f < z) (mul-comm (2 ^ suc (emax f)) (2 ^ low f) ∙ sym (pow-add 2 (low f) (suc (emax f)))) (mul-lt-mul-of-pos-right fine (pow-pos (low f)))))
+    (subst (λ (z : ℕ). q * 2 ^ j * 2 ^ low f < z) (mul-comm (2 ^ suc (emax f)) (2 ^ low f) ∙ sym (pow-add 2 (low f) (suc (emax f))))
+    (mul-lt-mul-of-pos-right fine (pow-pos (low f)))))
     (e ∙ sym (mul-one (q * 2 ^ (j + low f))))
 
 write-small : (f : Format) (s : Bool) (n : ℕ) → n < 2 ^ prec f → HasValue (round f s n 1) s n 1
@@ -68,7 +81,8 @@ floor-cast w f (fin false m e) t =
     written (pos k) b =
         subst (λ (n : ℕ). HasValue (round f false n 1) false n 1) (sym (div-one (m * 2 ^ k)))
         (write-down f false m k (b .digits) (subst (λ (n : ℕ). m * 2 ^ k < n) (mul-one (2 ^ suc (emax f))) (b .finite)))
-    written (negsuc k) b = write-small f false (m * 1 / 2 ^ suc k) (lt-of-le-of-lt (div-le-self (m * 1) (2 ^ suc k)) (subst (λ (n : ℕ). n < 2 ^ prec f) (sym (mul-one m)) (b .digits)))
+    written (negsuc k) b = write-small f false (m * 1 / 2 ^ suc k)
+        (lt-of-le-of-lt (div-le-self (m * 1) (2 ^ suc k)) (subst (λ (n : ℕ). n < 2 ^ prec f) (sym (mul-one m)) (b .digits)))
 
 -- ---- the nearest whole number, halves away from zero
 abbrev pub halfUp : ℕ → ℕ → ℕ

@@ -1,6 +1,17 @@
--- A finite value in units of its format, 2 ^ -low: the whole number that `unitsOf` gives is exact, has no more digits than the format keeps, and is bounded. Assumes nothing.
+-- A finite value in units of its format, 2 ^ -low: the whole number that `unitsOf` gives is exact, has no more digits than the format keeps, and is
+-- bounded. Assumes nothing.
 use Prim.Native.Nat.{ℕ, suc, _+_, _-_, _*_, _/_, _^_, _≤_, _<_}
-use native.Mathlib.Nat.{le-of-eq, lt-of-lt-of-le, lt-of-le-of-lt, mul-one, mul-assoc, mul-right-comm, mul-div-cancel, mul-lt-mul-of-pos-right, lt-of-mul-lt-mul-right}
+use native.Mathlib.Nat.{
+  le-of-eq,
+  lt-of-lt-of-le,
+  lt-of-le-of-lt,
+  mul-one,
+  mul-assoc,
+  mul-right-comm,
+  mul-div-cancel,
+  mul-lt-mul-of-pos-right,
+  lt-of-mul-lt-mul-right,
+}
 use native.Mathlib.Omega.{arith}
 use mathlib.Core.Path.{_≡_, refl, sym, ap, _∙_}
 use mathlib.Core.Bool.{Bool, true, false, cond}
@@ -12,7 +23,7 @@ use lib.Ieee.Bits.{ofBits-toBits}
 use lib.Ieee.Exact.{HasValue}
 use lib.Ieee.Fits.{down-pos}
 use lib.Ieee.Positive.{positive}
-use Rattle.ieee.specs.Sqrt.{unitsOf}
+use Rattle.ieee.specs.Units.{unitsOf}
 use Rattle.ieee.proofs.Numbers.{exponent-le}
 use Rattle.ieee.proofs.Bounds.{Bounds, bounds}
 
@@ -32,20 +43,27 @@ bits-of-units f nan a v = absurd v
 bits-of-units f (inf s) a v = absurd v
 bits-of-units f (fin s m e) a v =
     let same : m * up e * 2 ^ low f / down e ≡ a = units-of-value f (fin s m e) false a v in
-    ap (λ (b : Bool). cond b (top f) 0 + (size (m * up e * 2 ^ low f / down e) - prec f) * hid f + m * up e * 2 ^ low f / down e / 2 ^ (size (m * up e * 2 ^ low f / down e) - prec f)) (v .0)
+    ap (λ (b : Bool). cond b (top f) 0 + (size (m * up e * 2 ^ low f / down e) - prec f) * hid f + m * up e * 2 ^ low f / down e / 2 ^
+    (size (m * up e * 2 ^ low f / down e) - prec f)) (v .0)
     ∙ ap (λ (n : ℕ). 0 + (size n - prec f) * hid f + n / 2 ^ (size n - prec f)) same
     ∙ zero-first ((size a - prec f) * hid f) (a / 2 ^ (size a - prec f))
 
 -- so it is its units' only one
-pub units-injective : (f : Format) (x y : Float) → T (fits f x) → T (fits f y) → HasValue x false (unitsOf f x) (2 ^ low f) → HasValue y false (unitsOf f y) (2 ^ low f) → unitsOf f x ≡ unitsOf f y → x ≡ y
+pub units-injective : (f : Format) (x y : Float) → T (fits f x) → T (fits f y) → HasValue x false (unitsOf f x) (2 ^ low f)
+    → HasValue y false (unitsOf f y) (2 ^ low f) → unitsOf f x ≡ unitsOf f y → x ≡ y
 units-injective f x y s t v w e =
     sym (ofBits-toBits f x s)
-    ∙ ap (ofBits f) (bits-of-units f x (unitsOf f x) v ∙ ap (λ (a : ℕ). (size a - prec f) * hid f + a / 2 ^ (size a - prec f)) e ∙ sym (bits-of-units f y (unitsOf f y) w))
+    ∙ ap (ofBits f) (bits-of-units f x (unitsOf f x) v ∙ ap (λ (a : ℕ). (size a - prec f) * hid f + a / 2 ^ (size a - prec f)) e
+    ∙ sym (bits-of-units f y (unitsOf f y) w))
     ∙ ofBits-toBits f y t
 
 -- ---- a value that fits is digits and places of units
 whole-units : (f : Format) (m : ℕ) (e : ℤ) → Bounds f m e → (j : ℕ) × (m * up e * 2 ^ low f ≡ m * 2 ^ j * down e)
-whole-units f m (pos k) b = (k + low f, mul-assoc m (2 ^ k) (2 ^ low f) ∙ ap (λ (x : ℕ). m * x) (sym (pow-add 2 k (low f))) ∙ sym (mul-one (m * 2 ^ (k + low f))))
+whole-units f m (pos k) b = (
+  k + low f,
+  mul-assoc m (2 ^ k) (2 ^ low f) ∙ ap (λ (x : ℕ). m * x) (sym (pow-add 2 k (low f)))
+      ∙ sym (mul-one (m * 2 ^ (k + low f))),
+)
 whole-units f m (negsuc k) b =
     let l = low f in
     let within : suc k ≤ l = exponent-le (suc k) l (b .fine) in

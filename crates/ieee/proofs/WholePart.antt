@@ -18,7 +18,8 @@ module _ (a c d h l : ℕ) (p : 0 < c) (value : a * 2 ^ l ≡ d * 2 ^ h * c) whe
   below-power : (n w : ℕ) → 2 ^ n ≤ d → a < 2 ^ w * c → n + h < w + l
   below-power n w many less =
       let scaled : d * 2 ^ h * c < 2 ^ w * 2 ^ l * c =
-      subst (λ (k : ℕ). k < 2 ^ w * 2 ^ l * c) value (lt-of-lt-of-le (mul-lt-mul-of-pos-right less (pow-pos l)) (le-of-eq (mul-right-comm (2 ^ w) c (2 ^ l)))) in
+      subst (λ (k : ℕ). k < 2 ^ w * 2 ^ l * c) value
+      (lt-of-lt-of-le (mul-lt-mul-of-pos-right less (pow-pos l)) (le-of-eq (mul-right-comm (2 ^ w) c (2 ^ l)))) in
       let units : 2 ^ n * 2 ^ h < 2 ^ w * 2 ^ l = lt-of-le-of-lt (mul-le-mul-right (2 ^ h) many) (lt-of-mul-lt-mul-right c scaled) in
       exponent-lt (n + h) (w + l) (rw (pow-add 2 n h, pow-add 2 w l) units)
 
@@ -99,7 +100,8 @@ shift x fit l h = go (toBits binary32 x) (toBits binary32 x / 2 ^ 23) (all .unsi
     cross y t fields = value→cross x (digits binary32 y t * 2 ^ places y) (2 ^ 149) (fields .value)
 
     go : (b y : ℕ) → b < 2 ^ 31 → b / 2 ^ 23 ≡ y → InFields binary32 x false y (b % 2 ^ 23) → Shift x b
-    go b zero less e fields = absurd (omega (arith, above-power (num x) (den x) (b % 2 ^ 23) 0 149 (den-pos x) (cross 0 (b % 2 ^ 23) fields) 24 (omega arith) (is .low)))
+    go b zero less e fields = absurd
+        (omega (arith, above-power (num x) (den x) (b % 2 ^ 23) 0 149 (den-pos x) (cross 0 (b % 2 ^ 23) fields) 24 (omega arith) (is .low)))
     go b (suc y) less e fields =
         let d = 2 ^ 23 + b % 2 ^ 23 in
         let value : num x * 2 ^ 149 ≡ d * 2 ^ y * den x = cross (suc y) (b % 2 ^ 23) fields in
@@ -110,5 +112,6 @@ shift x fit l h = go (toBits binary32 x) (toBits binary32 x / 2 ^ 23) (all .unsi
           small = less;
           low = omega arith;
           high = omega arith;
-          whole = shifted d y 149 8 (158 - b / 2 ^ 23) (omega arith) ∙ sym (quotient (num x) (den x) d y 149 (den-pos x) value) ∙ sym (cut 32 x (is .above) (is .high));
+          whole = shifted d y 149 8 (158 - b / 2 ^ 23) (omega arith) ∙ sym (quotient (num x) (den x) d y 149 (den-pos x) value)
+              ∙ sym (cut 32 x (is .above) (is .high));
         }

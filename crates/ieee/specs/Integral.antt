@@ -11,7 +11,6 @@ upTo n d = n / d + cond (eqb (n % d) 0) 0 1
 
 -- IEEE 754's roundToIntegralTowardNegative, Rust's `floor`: the largest whole number that is not above x
 unfoldable pub floor : Format → Float → Float
-unfolding round
 floor f nan = nan
 floor f (inf s) = inf s
 floor f (fin false m e) = round f false (m * up e / down e) 1
@@ -19,7 +18,6 @@ floor f (fin true m e) = round f true (upTo (m * up e) (down e)) 1
 
 -- IEEE 754's roundToIntegralTiesToAway, Rust's `round`: the nearest whole number, and of two as near the one further from zero
 unfoldable pub roundTiesToAway : Format → Float → Float
-unfolding round
 roundTiesToAway f nan = nan
 roundTiesToAway f (inf s) = inf s
 roundTiesToAway f (fin s m e) = round f s ((2 * (m * up e) + down e) / (2 * down e)) 1

@@ -3,12 +3,11 @@ use mathlib.Core.Path.{_≡_, refl, sym, ap, _∙_}
 use mathlib.Core.Bool.{Bool, true, false, _&&_, _||_, cond, true≢false}
 use Prim.Native.Nat.{ℕ, zero, suc, _*_, _^_, _≤_, _<_}
 use native.Mathlib.Omega.{arith}
-use lib.Dec.{T, ltb, eqb, ltb→lt, eqb→eq, le→leb, lit<}
-use lib.IntN.{pos}
-use lib.Ieee.{Float, nan, inf, fin, Format, prec, low, up, down, round, units, odd, lt, le, binary32, ofInt, toUnsigned, inFloat}
+use lib.Dec.{T, ltb, eqb, ltb→lt, eqb→eq, lit<}
+use lib.Ieee.{Float, nan, inf, fin, Format, prec, low, up, down, round, units, odd, lt, le}
 use lib.Ieee.Fits.{round-is}
 use lib.Ieee.Exact.{HasValue}
-use lib.Ieee.Back.{round-whole, unsigned-back}
+use lib.Ieee.Back.{round-whole}
 use lib.Ieee.Order.{round-mono}
 use lib.Ieee.Scale.{overflow}
 use lib.Ieee.Positive.{num, den}

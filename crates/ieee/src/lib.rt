@@ -1,10 +1,9 @@
 // What Rust has on floats and Rattle lacks, as functions that ask nothing of their argument: bit
-// patterns, abs, saturating casts, floor and round to an integer, and the square root. Each contract
+// patterns, abs, saturating casts, and floor and round to an integer. Each contract
 // is one equation with a definition, of the logic's account of IEEE 754 (`lib.Ieee`) or of specs/, for
 // every float, NaNs too.
 mod bits;
 mod casts;
-mod root;
 
 pub use bits::abs_f32;
 pub use bits::bits_of_f32;
@@ -17,4 +16,3 @@ pub use casts::round_floor_f32_to_u32;
 pub use casts::saturating_f32_to_i32;
 pub use casts::saturating_f32_to_u32;
 pub use casts::saturating_f64_to_u32;
-pub use root::sqrt_f64;

@@ -1,6 +1,6 @@
 -- The bits of a list of 64-bit words, and bits marked in such a list. Bit i is bit i % 64 of word i / 64, counted from the least significant.
 -- Assumes nothing.
-use Prim.Native.Nat.{ℕ, zero, suc, _+_, _-_, _*_, _/_, _%_, _^_}
+use Prim.Native.Nat.{ℕ, zero, suc, _+_, _/_, _%_, _^_}
 use mathlib.Core.Bool.{Bool, not}
 use mathlib.Core.List.{List, [], _∷_}
 use lib.ListN.{getD, set, replicate}
@@ -41,7 +41,3 @@ zeros n = replicate n 0
 unfoldable pub range : ℕ → ℕ → List ℕ
 range i zero = []
 range i (suc n) = i ∷ range (i + 1) n
-
--- n ones from place p on
-abbrev pub mask : ℕ → ℕ → ℕ
-mask n p = (2 ^ n - 1) * 2 ^ p

@@ -1,3 +1,5 @@
+-- `Reads`, `Bits`, `Total` and `Runs` have the definitions, `RunsClauses` what the clauses of functions name, the others laws. `Demand3` has the two
+-- of demand 3.
 pub mod Reads
 pub mod ReadsLaws
 pub mod Bits
@@ -6,5 +8,6 @@ pub mod BitsLaws
 pub mod OrderLaws
 pub mod MasksLaws
 pub mod Runs
+pub mod RunsClauses
 pub mod RunsLaws
 pub mod Demand3

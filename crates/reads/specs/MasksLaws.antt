@@ -9,9 +9,13 @@ use lib.Bits.{bitOr, or-zero-r, or-shifted-r}
 use lib.ListN.{length, getD, set, length-set}
 use lib.Pow.{pow-pos, pow-lt}
 use lib.Seq.{getD-set-same, set-getD, set-set}
-use Rattle.reads.specs.Bits.{setBit, mark, markAll, range, mask}
+use Rattle.reads.specs.Bits.{setBit, mark, markAll, range}
 use Rattle.reads.specs.BitsLaws.{mark-past}
 use Rattle.reads.specs.OrderLaws.{or-assoc}
+
+-- n ones from place p on
+abbrev pub mask : ℕ → ℕ → ℕ
+mask n p = (2 ^ n - 1) * 2 ^ p
 
 twice : (m x : ℕ) → m * (2 * x) + x ≡ (2 * m + 1) * x
 twice m x = omega arith

@@ -3,7 +3,6 @@
 -- Assumes nothing.
 use Prim.Native.Nat.{ℕ}
 use mathlib.Core.Bool.{Bool}
-use mathlib.Core.Path.{_≡_}
 use mathlib.Core.List.{List, [], _∷_}
 
 -- a result, or the read of one stored bit, by its index, and the program that goes on from the bit's value
@@ -26,12 +25,3 @@ value (read i next) image = value (next (image i)) image
 unfoldable pub trace : {A : Type 0} → Reads A → (ℕ → Bool) → List ℕ
 trace (done a) image = []
 trace (read i next) image = i ∷ trace (next (image i)) image
-
--- P holds of the result, whatever the image
-pub record Always {A : Type 0} (P : A → Type 0) (p : Reads A) : Type 0 where
-  pub on : (image : ℕ → Bool) → P (value p image)
-
--- one result and one trace, whatever the image
-pub record Same {A : Type 0} (p q : Reads A) : Type 0 where
-  pub values : (image : ℕ → Bool) → value p image ≡ value q image
-  pub traces : (image : ℕ → Bool) → trace p image ≡ trace q image

@@ -4,7 +4,16 @@ use Prim.Native.Nat.{ℕ}
 use mathlib.Core.Bool.{Bool, true, false, cond}
 use mathlib.Core.Path.{_≡_, refl, sym, ap, ap₂, _∙_, fun-ext}
 use mathlib.Core.List.{List, _∷_, _++_, List·Memᴰ, List·Memᴰ·head, List·Memᴰ·tail}
-use Rattle.reads.specs.Reads.{Reads, done, read, _>>=_, value, trace, Always, Same}
+use Rattle.reads.specs.Reads.{Reads, done, read, _>>=_, value, trace}
+
+-- P holds of the result, whatever the image
+pub record Always {A : Type 0} (P : A → Type 0) (p : Reads A) : Type 0 where
+  pub on : (image : ℕ → Bool) → P (value p image)
+
+-- one result and one trace, whatever the image
+pub record Same {A : Type 0} (p q : Reads A) : Type 0 where
+  pub values : (image : ℕ → Bool) → value p image ≡ value q image
+  pub traces : (image : ℕ → Bool) → trace p image ≡ trace q image
 
 -- ---- sequence
 

@@ -7,11 +7,12 @@ use mathlib.Core.Path.{_≡_, refl, sym, ap, _∙_, subst, subst⁻¹}
 use mathlib.Core.List.{List}
 use borrow.Author.Tests.{lt-ltb, le-ltb, le-leb, lt-leb}
 use lib.ListN.{length}
-use Rattle.reads.specs.Reads.{Reads, done, read, _>>=_, value, trace, Always}
-use Rattle.reads.specs.ReadsLaws.{value-bind, trace-bind}
+use Rattle.reads.specs.Reads.{Reads, done, read, _>>=_, value, trace}
+use Rattle.reads.specs.ReadsLaws.{Always, value-bind, trace-bind}
 use Rattle.reads.specs.Bits.{bitAt, mark, markAll, range}
 use Rattle.reads.specs.BitsLaws.{length-markAll, markAll-append, range-last}
-use Rattle.reads.specs.Runs.{valueOf, marksOf, Ran, Resumes}
+use Rattle.reads.specs.Runs.{valueOf, marksOf}
+use Rattle.reads.specs.RunsClauses.{Ran, Resumes}
 
 -- ---- runs in sequence
 

@@ -1,5 +1,6 @@
--- The places of a record's words (document 01, "Box, turn and class"): eleven runs of the row from `rowRuns` on, eleven of the column from `columnRuns` on, and four
--- corners, x before y, from `corners` on. The code's constants are proved to be these wherever a step reads or writes a field. Definitions only. Assumes nothing.
+-- The places of a record's words (docs/MANUAL.md, "Records and printed lines"): eleven runs of the row from `rowRuns` on, eleven of the column from
+-- `columnRuns` on, and four corners, x before y, from `corners` on. The code's constants are proved to be these wherever a step reads or writes a
+-- field. Definitions only. Assumes nothing.
 use Prim.Native.Nat.{ℕ}
 
 abbrev pub centerX : ℕ

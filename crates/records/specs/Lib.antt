@@ -1,6 +1,7 @@
--- `Records` has the definitions, `Fields` the places of a record's words, `RecordsLaws` how reading, replacing and clearing look on them, `Copies` the law of a
--- loop that copies.
+-- `Records` has the definitions, `Fields` the places of a record's words, `RecordsClauses` what the clauses of functions name, `RecordsLaws` how reading,
+-- replacing and clearing look on records, `CopiesLaws` the law of a loop that copies.
 pub mod Fields
 pub mod Records
+pub mod RecordsClauses
 pub mod RecordsLaws
-pub mod Copies
+pub mod CopiesLaws

@@ -1,6 +1,5 @@
 -- A list of words as a list of records of 40 words. Definitions only. Assumes nothing.
-use Prim.Native.Nat.{ℕ, zero, suc, _+_, _-_, _*_, _/_, _≤_, min}
-use mathlib.Core.Path.{_≡_}
+use Prim.Native.Nat.{ℕ, zero, suc, _+_, _-_, _*_, _/_, min}
 use mathlib.Core.Bool.{Bool, cond}
 use mathlib.Core.List.{List, [], _∷_, _++_}
 use lib.ListN.{length, take, drop, replicate}
@@ -25,30 +24,6 @@ flat (r ∷ rs) = r ++ flat rs
 -- a buffer afterwards: the records rs, zeros up to the capacity, and the rest as it was
 unfoldable pub laidOut : ℕ → List Record → List ℕ → List ℕ
 laidOut capacity rs before = flat rs ++ replicate (40 * (capacity - length rs)) 0 ++ drop (40 * capacity) before
-
--- record i
-unfoldable pub get : List ℕ → ℕ → Record
-get l i = take 40 (drop (40 * i) l)
-
--- r in the place of record i
-unfoldable pub put : List ℕ → ℕ → Record → List ℕ
-put l i r = take (40 * i) l ++ r ++ drop (40 * i + 40) l
-
--- The first n records of `before` have become rs, and the words beyond them are as they were.
-pub record Became (n : ℕ) (before : List ℕ) (rs : List Record) (after : List ℕ) : Type 0 where
-  pub records : rows n after ≡ rs
-  pub rest : drop (40 * n) after ≡ drop (40 * n) before
-
--- None but the first n records of l differ from those of `before`.
-pub record Beside (n : ℕ) (before l : List ℕ) : Type 0 where
-  pub held : 40 * n ≤ length before
-  pub same : length l ≡ length before
-  pub rest : drop (40 * n) l ≡ drop (40 * n) before
-
--- P holds of each element
-unfoldable pub Each : {A : Type 0} → (A → Type 0) → List A → Type 0
-Each P [] = Unit
-Each P (x ∷ xs) = P x × Each P xs
 
 -- the elements at which p is true, in their order
 unfoldable pub filter : {A : Type 0} → (A → Bool) → List A → List A

@@ -6,7 +6,14 @@ use mathlib.Core.Path.{_≡_, refl, sym, ap, ap₂, _∙_}
 use mathlib.Core.List.{List, [], _∷_, _++_, map, append-assoc}
 use lib.ListN.{length, getD, take, drop, set, length-append, length-drop, take-append-drop}
 use lib.Seq.{take-set-le, take-set-lt, drop-set-lt, drop-set-add, take-add, drop-drop, take-at, drop-at, drop-append-add, length-take-le, getD-take, getD-drop}
-use Rattle.records.specs.Records.{Record, rows, flat, get, put, Became, Beside, Each, filter}
+use Rattle.records.specs.Records.{Record, rows, flat, filter}
+use Rattle.records.specs.RecordsClauses.{get, put, Became, Each}
+
+-- None but the first n records of l differ from those of `before`.
+pub record Beside (n : ℕ) (before l : List ℕ) : Type 0 where
+  pub held : 40 * n ≤ length before
+  pub same : length l ≡ length before
+  pub rest : drop (40 * n) l ≡ drop (40 * n) before
 
 -- ---- the records after the first
 
@@ -169,13 +176,19 @@ exchanged n l i j l′ stored hi hj k =
 pub beside-start : (n : ℕ) (l : List ℕ) → 40 * n ≤ length l → Beside n l l
 beside-start n l h = record { held = h; same = refl; rest = refl }
 
-pub beside-then : {n : ℕ} {before l : List ℕ} {rs : List Record} {l′ : List ℕ} → Beside n before l → Became n l rs l′ → length l′ ≡ length l → Beside n before l′
+pub beside-then : {n : ℕ} {before l : List ℕ} {rs : List Record} {l′ : List ℕ} → Beside n before l → Became n l rs l′ → length l′ ≡ length l
+    → Beside n before l′
 beside-then so-far step sized = record { held = so-far .held; same = sized ∙ so-far .same; rest = step .rest ∙ so-far .rest }
 
 pub beside-room : {n : ℕ} {before l : List ℕ} → Beside n before l → 40 * n ≤ length l
 beside-room so-far = omega (arith, so-far .held, so-far .same)
 
 -- ---- a fact of each record
+
+-- a choice, by its two cases
+pub either : {B : Type 0} (P : B → Type 0) (b : Bool) (u v : B) → (b ≡ true → P u) → (b ≡ false → P v) → P (cond b u v)
+either P true u v f g = f refl
+either P false u v f g = g refl
 
 pub each-at : {A : Type 0} (P : A → Type 0) (d : A) (xs : List A) (i : ℕ) → Each P xs → i < length xs → P (getD xs i d)
 unfolding Each

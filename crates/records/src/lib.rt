@@ -3,7 +3,8 @@ ghost use mathlib.Core.Path.{_≡_};
 ghost use Prim.Native.Nat.{_+_, _*_, _≤_};
 ghost use mathlib.Core.List.{_++_};
 ghost use lib.ListN.{length, take, drop, replicate};
-ghost use Rattle.records.specs.Records.{capacityOf, get, put};
+ghost use Rattle.records.specs.Records.{capacityOf};
+ghost use Rattle.records.specs.RecordsClauses.{get, put};
 
 // The places of a record's words: eleven runs from ROW_RUNS on, eleven from COLUMN_RUNS on, four corners, x before y, from CORNERS on.
 pub const CENTER_X: usize = 0;

@@ -36,7 +36,7 @@ fn is_right(text: &[u8], at: usize) -> bool
     requires { ⌜ at + 34 ≤ length (now text) ⌝ }
 {
     let pattern = number(text, at);
-    let root = ieee::sqrt_f64(ieee::f64_of_bits(pattern));
+    let root = ieee_sqrt::sqrt_f64(ieee::f64_of_bits(pattern));
     if ieee::bits_of_f64(root) == number(text, at + 17) {
         return true;
     }

@@ -20,14 +20,11 @@ past center n = sub binary32 (real n) (real center)
 -- `original` turned about `center` by an angle, the sign of each coordinate cleared
 unfoldable pub turned : PointU → PointU → Angle → Point
 turned center original angle =
-    let sin = angle .sin in
-    let cos = angle .cos in
     let u = past (center .x) (original .x) in
     let v = past (center .y) (original .y) in
-    record {
-      x = abs (add binary32 (sub binary32 (mul binary32 cos u) (mul binary32 sin v)) (real (center .x)));
-      y = abs (add binary32 (add binary32 (mul binary32 sin u) (mul binary32 cos v)) (real (center .y)));
-    }
+    let across = sub binary32 (mul binary32 (angle .cos) u) (mul binary32 (angle .sin) v) in
+    let down = add binary32 (mul binary32 (angle .sin) u) (mul binary32 (angle .cos) v) in
+    record { x = abs (add binary32 across (real (center .x))); y = abs (add binary32 down (real (center .y))) }
 
 -- `get_point`: by whole degrees
 abbrev pub getPoint : PointU → PointU → ℕ → Point

@@ -1,16 +1,51 @@
--- The rules of the table hold at every degree (`sine-rules`): each is one test that antt computes over the 360 entries. And a degree counts modulo 360 (`sine-mod`). Assumes nothing.
+-- The rules of the table (docs/MANUAL.md, "How a search decides") hold at every degree (`sine-rules`): each is one test that antt computes over the
+-- 360 entries, as whole numbers of 2 ^ -29. And a degree counts modulo 360 (`sine-mod`). Assumes nothing.
 use mathlib.Core.Path.{_≡_, refl, sym, ap, _∙_, subst}
-use mathlib.Core.Bool.{Bool, true, false, _&&_, Bool·beq}
-use Prim.Native.Nat.{ℕ, _+_, _*_, _%_, _^_, _<_}
+use mathlib.Core.Bool.{Bool, true, false, cond, _&&_, Bool·beq}
+use Prim.Native.Nat.{ℕ, _+_, _*_, _/_, _%_, _^_, _≤_, _<_}
 use native.Mathlib.Nat.{mod-lt, mod-mod, mod-add-mod}
 use lib.Dec.{T, eqb, leb, eqb→eq, leb→le, lit<}
 use lib.IntN.{ℤ, pos, negsuc, negℤ, natAbs, _+ℤ_, _-ℤ_, _*ℤ_}
 use lib.Ieee.{Float, nan, inf, fin, up, down, ofBits}
 use lib.Ieee.Fits.{and-l, and-r}
 use lib.Ieee.Exact.{HasValue}
-use Rattle.sines.specs.Sines.{sineOf}
-use Rattle.sines.specs.Rules.{scaled, scaledSine, scaledCosine, negative, slack, Near, SineRules}
+use Rattle.sines.specs.Sines.{sineOf, cosineOf}
 use Rattle.sines.specs.Every.{every, every-at}
+
+-- ---- the rules
+-- a value scaled by 2 ^ 29, cut to a whole number
+unfoldable pub scaled : Float → ℤ
+scaled nan = pos 0
+scaled (inf s) = pos 0
+scaled (fin s m e) = let n = m * up e * 2 ^ 29 / down e in cond s (negℤ (pos n)) (pos n)
+
+abbrev pub scaledSine : ℕ → ℤ
+scaledSine degree = scaled (sineOf degree)
+
+abbrev pub scaledCosine : ℕ → ℤ
+scaledCosine degree = scaled (cosineOf degree)
+
+abbrev pub negative : ℤ → Bool
+negative (pos n) = false
+negative (negsuc n) = true
+
+-- how far a rule may be out, in units of 2 ^ -58
+abbrev pub slack : ℕ
+slack = 2 ^ 35
+
+abbrev pub Near : ℤ → ℤ → Type 0
+Near a b = natAbs (a -ℤ b) ≤ slack
+
+-- the rules at a degree
+pub record SineRules (degree : ℕ) : Type 0 where
+  -- scaled it is whole: nothing was cut
+  pub whole : HasValue (sineOf degree) (negative (scaledSine degree)) (natAbs (scaledSine degree)) (2 ^ 29)
+  -- half a turn on, the sign changes
+  pub half-turn : scaledSine (degree + 180) ≡ negℤ (scaledSine degree)
+  -- the squares of sine and cosine sum to 1
+  pub squares : Near (scaledSine degree *ℤ scaledSine degree +ℤ scaledCosine degree *ℤ scaledCosine degree) (pos (2 ^ 58))
+  -- the sine one degree on, by the sum rule
+  pub next : Near (scaledSine (degree + 1) *ℤ pos (2 ^ 29)) (scaledSine degree *ℤ scaledCosine 1 +ℤ scaledCosine degree *ℤ scaledSine 1)
 
 -- ---- a degree counts modulo 360
 below-turn : (degree : ℕ) → degree % 360 < 360
@@ -104,10 +139,12 @@ module _ (degree : ℕ) where
   pub sine-rules : SineRules degree
   unfolding wholeAt halfTurnAt squaresAt nextAt
   sine-rules = record {
-    whole = subst (λ (x : Float). HasValue x (negative (scaled x)) (natAbs (scaled x)) (2 ^ 29)) (sine-mod degree) (has-scaled (sineOf one) (every-at wholeAt 360 whole-passes one (below-turn degree)));
+    whole = subst (λ (x : Float). HasValue x (negative (scaled x)) (natAbs (scaled x)) (2 ^ 29)) (sine-mod degree)
+        (has-scaled (sineOf one) (every-at wholeAt 360 whole-passes one (below-turn degree)));
     half-turn =
         let s = every-at halfTurnAt 360 half-turn-passes one (below-turn degree) in
-        ap scaled (sym (sine-mod-add degree 180)) ∙ equal→eq (scaledSine (one + 180)) (negℤ (scaledSine one)) s ∙ ap (λ (x : Float). negℤ (scaled x)) (sine-mod degree);
+        ap scaled (sym (sine-mod-add degree 180)) ∙ equal→eq (scaledSine (one + 180)) (negℤ (scaledSine one)) s
+        ∙ ap (λ (x : Float). negℤ (scaled x)) (sine-mod degree);
     squares = rw (← sine-mod degree, ← sine-mod-add degree 90) (near→Near _ _ (every-at squaresAt 360 squares-pass one (below-turn degree)));
     next = rw (← sine-mod degree, ← sine-mod-add degree 90, ← sine-mod-add degree 1) (near→Near _ _ (every-at nextAt 360 next-passes one (below-turn degree)));
   }

@@ -1,6 +1,5 @@
--- `Sines` (over the data of `Table`) and `Rules` are the definitions; `Laws` proves the rules, each by one computed test (`Every`).
+-- `Sines` (over the data of `Table`) has the definitions; `Laws` the rules of the table and their proof, each by one computed test (`Every`).
 pub mod Table
 pub mod Sines
-pub mod Rules
 pub mod Every
 pub mod Laws

@@ -1,4 +1,4 @@
--- The stand-in for sine and cosine (document 01, "Box, turn and class"). A degree counts modulo 360. Definitions only. Assumes nothing.
+-- The stand-in for sine and cosine (docs/MANUAL.md, "How a search decides"). A degree counts modulo 360. Definitions only. Assumes nothing.
 use Prim.Native.Nat.{ℕ, _+_, _%_}
 use mathlib.Core.List.{List, map}
 use lib.ListN.{getD}

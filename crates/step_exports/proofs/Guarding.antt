@@ -12,19 +12,23 @@ use lib.Ieee.{Float, binary32, binary64, ofBits, toBits}
 use Rattle.bit_matrix.specs.declared.Shape.{Shape}
 use Rattle.bit_matrix.specs.Shape.{shapeOf, Image}
 use Rattle.sines.specs.Sines.{sines}
-use Rattle.records.specs.Records.{capacityOf, rows, Each}
+use Rattle.records.specs.Records.{capacityOf, rows}
+use Rattle.records.specs.RecordsClauses.{Each}
 use Rattle.rxing_result_point.specs.declared.Point.{Point}
 use Rattle.rxing_result_point.specs.declared.PointU.{PointU}
-use Rattle.detector_boundary.specs.declared.Size.{Size}
+use Rattle.detector_size.specs.declared.Size.{Size}
 use Rattle.detector_boundary.specs.declared.Boundary.{Boundary}
-use Rattle.detector_boundary.specs.Size.{isScale, guessedSize}
-use Rattle.detector_boundary.specs.Boundary.{Centered, scaledBoundary}
-use Rattle.detector_boundary.specs.InImage.{Placed, scaled-placed}
-use Rattle.detector_points.specs.Orientation.{isCell, adjustedPoint}
-use Rattle.detector_rank.specs.Rank.{Small}
+use Rattle.detector_size.specs.Size.{guessedSize}
+use Rattle.detector_size.specs.SizeClauses.{isScale}
+use Rattle.detector_boundary.specs.Boundary.{scaledBoundary}
+use Rattle.detector_boundary.specs.BoundaryClauses.{Centered, Placed}
+use Rattle.detector_boundary.specs.InImageLaws.{scaled-placed}
+use Rattle.detector_points.specs.Orientation.{adjustedPoint}
+use Rattle.detector_points.specs.OrientationClauses.{isCell}
+use Rattle.detector_variances.specs.VariancesClauses.{Small}
 use Rattle.detector_kept.specs.declared.Spread.{Spread}
-use Rattle.detector_kept.specs.Kept.{Candidates, KeptAndRanked}
-use Rattle.detector_walks.specs.Walks.{Lent}
+use Rattle.detector_kept.specs.KeptClauses.{Candidates, KeptAndRanked}
+use Rattle.detector_walks.specs.WalksClauses.{Lent}
 use Rattle.detector_center.specs.Center.{findCenter}
 use Rattle.step_exports.specs.Steps.{Guarded, Decides, SmallTo, pointByBits, spreadWords, sizeWords, boundaryWords, pixelWords, pointWords}
 

@@ -7,20 +7,22 @@ use mathlib.Core.List.{List, [], _∷_}
 use lib.Ieee.{binary32, toBits}
 use lib.ListN.{length}
 use Rattle.reads.specs.Reads.{Reads}
-use Rattle.reads.specs.Runs.{Ran}
+use Rattle.reads.specs.RunsClauses.{Ran}
 use Rattle.reads.specs.RunsLaws.{ran-bind, ran-is}
 use Rattle.bit_matrix.specs.declared.Sample.{Sample}
 use Rattle.bit_matrix.specs.declared.Shape.{Shape}
 use Rattle.bit_matrix.specs.Shape.{shapeOf}
-use Rattle.bit_matrix.specs.Area.{tryGetArea}
+use Rattle.bit_matrix_area.specs.Area.{tryGetArea}
 use Rattle.rxing_result_point.specs.declared.PointU.{PointU}
 use Rattle.records.specs.Records.{capacityOf}
-use Rattle.detector_candidates.specs.Candidates.{concentricCircles, Room, Listed}
+use Rattle.detector_candidates.specs.Candidates.{concentricCircles}
+use Rattle.detector_candidates.specs.CandidatesClauses.{Room, Listed}
 use Rattle.detector_walks.specs.declared.Ends.{Ends}
 use Rattle.detector_walks.specs.Walks.{findWidthAtDegree}
 use Rattle.detector_center.specs.Center.{corrected}
 use Rattle.detector_circle.specs.declared.Circle.{Circle}
-use Rattle.detector_box.specs.Boxes.{symbolAt, withSymbol}
+use Rattle.detector_box.specs.Boxes.{symbolAt}
+use Rattle.detector_symbol.specs.Symbols.{withSymbol}
 use Rattle.step_exports.specs.Row.{blackFrom}
 use Rattle.step_exports.specs.Steps.{through, sampleNumber, pixelWords, endsWords}
 use Rattle.step_exports.proofs.Guarding.{pixel-words}

@@ -1,6 +1,6 @@
 -- What every exported step promises, and its results as words. Definitions only. Assumes nothing.
 use Prim.Native.Nat.{ℕ, _+_, _<_}
-use mathlib.Core.Bool.{Bool, true, cond}
+use mathlib.Core.Bool.{Bool, true}
 use mathlib.Core.Path.{_≡_}
 use mathlib.Core.List.{List, [], _∷_}
 use lib.ListN.{getD}
@@ -13,7 +13,7 @@ use Rattle.bit_matrix.specs.Shape.{shapeOf}
 use Rattle.bit_matrix.specs.Pixels.{ifSample}
 use Rattle.rxing_result_point.specs.declared.Point.{Point}
 use Rattle.rxing_result_point.specs.declared.PointU.{PointU}
-use Rattle.detector_boundary.specs.declared.Size.{Size}
+use Rattle.detector_size.specs.declared.Size.{Size}
 use Rattle.detector_boundary.specs.declared.Boundary.{Boundary}
 use Rattle.detector_boundary.specs.Boundary.{scaledBoundary}
 use Rattle.detector_circle.specs.declared.Circle.{Circle}

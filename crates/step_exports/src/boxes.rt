@@ -4,16 +4,17 @@ use bit_matrix::Shape;
 use detector_circle::Circle;
 use rxing_result_point::PointU;
 ghost use mathlib.Core.Path.{_≡_};
-ghost use Rattle.reads.specs.Runs.{Ran};
+ghost use Rattle.reads.specs.RunsClauses.{Ran};
 ghost use Rattle.bit_matrix.specs.Shape.{Image};
-ghost use Rattle.bit_matrix.specs.Area.{tryGetArea};
+ghost use Rattle.bit_matrix_area.specs.Area.{tryGetArea};
 ghost use Rattle.sines.specs.Sines.{sines};
-ghost use Rattle.detector_walks.specs.Walks.{findWidthAtDegree, Lent};
+ghost use Rattle.detector_walks.specs.Walks.{findWidthAtDegree};
+ghost use Rattle.detector_walks.specs.WalksClauses.{Lent};
 ghost use Rattle.detector_center.specs.Center.{corrected};
-ghost use Rattle.detector_turn.specs.Scales.{LentCircle};
-ghost use Rattle.detector_box.specs.Boxes.{symbolAt, withSymbol};
-ghost use Rattle.step_exports.specs.Steps.{Guarded, refusedAnswer, numberIn, shapeIn, pixelIn, circleIn};
-ghost use Rattle.step_exports.specs.Steps.{through, sampleNumber, endsWords, pixelWords};
+ghost use Rattle.detector_turn.specs.ScalesClauses.{LentCircle};
+ghost use Rattle.detector_box.specs.Boxes.{symbolAt};
+ghost use Rattle.detector_symbol.specs.Symbols.{withSymbol};
+ghost use Rattle.step_exports.specs.Steps.{Guarded, refusedAnswer, numberIn, shapeIn, pixelIn, circleIn, through, sampleNumber, endsWords, pixelWords};
 use crate::guards::REFUSED;
 use crate::guards::is_image;
 use crate::guards::is_lent;
@@ -42,7 +43,7 @@ pub extern "C" fn step_try_get_area(words: &[u64], marks: &mut [u64], numbers: &
     if !is_image(words, marks, shape) {
         return REFUSED;
     }
-    let sample = bit_matrix::try_get_area(words, marks, shape, numbers[2], numbers[3]);
+    let sample = bit_matrix_area::try_get_area(words, marks, shape, numbers[2], numbers[3]);
     sample_number(sample)
 }
 
@@ -124,7 +125,7 @@ fn boxed(
     let table = sines::table();
     let symbol = detector_box::box_symbol(words, marks, shape, circle, &table);
     let mut out = fields;
-    detector_box::symbol_fields(&mut out, symbol);
+    detector_symbol::symbol_fields(&mut out, symbol);
     out
 }
 

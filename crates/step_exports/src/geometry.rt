@@ -6,12 +6,27 @@ ghost use Prim.Native.Nat.{_≤_, _<_};
 ghost use lib.Dec.{T};
 ghost use lib.Ieee.{binary64, ofBits};
 ghost use Rattle.rxing_result_point.specs.Points.{getPoint};
-ghost use Rattle.detector_boundary.specs.Size.{guessedSize, isScale};
-ghost use Rattle.detector_boundary.specs.Boundary.{Centered};
-ghost use Rattle.detector_points.specs.Orientation.{isCell, adjustedPoint};
+ghost use Rattle.detector_size.specs.Size.{guessedSize};
+ghost use Rattle.detector_size.specs.SizeClauses.{isScale};
+ghost use Rattle.detector_boundary.specs.BoundaryClauses.{Centered};
+ghost use Rattle.detector_points.specs.Orientation.{adjustedPoint};
+ghost use Rattle.detector_points.specs.OrientationClauses.{isCell};
 ghost use Rattle.detector_center.specs.Center.{findCenter};
-ghost use Rattle.step_exports.specs.Steps.{Guarded, Decides, refusedAnswer, numberIn, shapeIn, pixelIn, boundaryIn, pointIn, pointByBits};
-ghost use Rattle.step_exports.specs.Steps.{sizeWords, boundaryWords, pixelWords, pointWords};
+ghost use Rattle.step_exports.specs.Steps.{
+  Guarded,
+  Decides,
+  refusedAnswer,
+  numberIn,
+  shapeIn,
+  pixelIn,
+  boundaryIn,
+  pointIn,
+  pointByBits,
+  sizeWords,
+  boundaryWords,
+  pixelWords,
+  pointWords,
+};
 use crate::guards::REFUSED;
 use crate::guards::is_centered;
 use crate::guards::is_radius;
@@ -39,7 +54,7 @@ pub extern "C" fn step_guess_barcode_size_general(
     let adjust = ieee::f64_of_bits(height_adjust);
     let area = ieee::f64_of_bits(circle_area);
     let last = ieee::f64_of_bits(height_final_adjust);
-    let size = detector_boundary::guess_barcode_size_general(radius, adjust, area, last);
+    let size = detector_size::guess_barcode_size_general(radius, adjust, area, last);
     *out = [size.width, size.height];
     0
 }

@@ -7,9 +7,9 @@ ghost use lib.Dec.{T};
 ghost use lib.ListN.{length};
 ghost use Rattle.bit_matrix.specs.Shape.{rowWords, Limits, Image, Inside};
 ghost use Rattle.sines.specs.Sines.{sines};
-ghost use Rattle.detector_boundary.specs.Size.{isScale};
-ghost use Rattle.detector_boundary.specs.Boundary.{Centered};
-ghost use Rattle.detector_walks.specs.Walks.{Lent};
+ghost use Rattle.detector_size.specs.SizeClauses.{isScale};
+ghost use Rattle.detector_boundary.specs.BoundaryClauses.{Centered};
+ghost use Rattle.detector_walks.specs.WalksClauses.{Lent};
 ghost use Rattle.step_exports.specs.Steps.{Decides, SmallTo, shapeIn};
 
 // The answer to what does not fit, in the two types that steps answer in.
@@ -37,7 +37,7 @@ pub fn shape_in(numbers: &[u32]) -> Shape
     requires { ⌜ 2 ≤ length (now numbers) ⌝ }
     ensures { λ r. ⌜ r ≡ shapeIn (now (numbers .entry)) ⌝ }
 {
-    crop::shape_of(numbers[0], numbers[1])
+    crop_sizes::shape_of(numbers[0], numbers[1])
 }
 
 // Whether a shape is within the limits of an image, by the check of images.
@@ -45,7 +45,7 @@ fn is_limited(shape: Shape) -> bool
     requires { ⌜ shape .«row_words» ≡ rowWords (shape .width) ⌝ }
     ensures { λ r. ⌜ Decides r (Limits shape) ⌝ }
 {
-    crop::size_refusal(shape, crop::LEAST, 0, 0) == 0
+    crop_sizes::size_refusal(shape, crop_sizes::LEAST, 0, 0) == 0
 }
 
 // Whether words and marks are an image of a shape.
@@ -56,7 +56,7 @@ pub fn is_image(words: &[u64], marks: &[u64], shape: Shape) -> bool
     if !is_limited(shape) {
         return false;
     }
-    if words.len() != crop::image_words(shape) {
+    if words.len() != crop_sizes::image_words(shape) {
         return false;
     }
     marks.len() == words.len()

@@ -4,7 +4,7 @@ ghost use Prim.Native.Nat.{_*_, _≤_};
 ghost use lib.ListN.{length};
 ghost use Rattle.records.specs.Records.{capacityOf, rows};
 ghost use Rattle.detector_kept.specs.Spread.{spread};
-ghost use Rattle.detector_kept.specs.Kept.{KeptAndRanked};
+ghost use Rattle.detector_kept.specs.KeptClauses.{KeptAndRanked};
 ghost use Rattle.step_exports.specs.Steps.{Guarded, SmallTo, refusedAnswer, spreadWords};
 use crate::guards::REFUSED;
 use crate::guards::REFUSED_COUNT;

@@ -1,9 +1,10 @@
 // The steps of the sweep, and a row's pixels one by one.
 use bit_matrix::Shape;
 ghost use mathlib.Core.Path.{_≡_};
-ghost use Rattle.reads.specs.Runs.{Ran};
+ghost use Rattle.reads.specs.RunsClauses.{Ran};
 ghost use Rattle.bit_matrix.specs.Shape.{Image};
-ghost use Rattle.detector_candidates.specs.Candidates.{concentricCircles, Room, Listed};
+ghost use Rattle.detector_candidates.specs.Candidates.{concentricCircles};
+ghost use Rattle.detector_candidates.specs.CandidatesClauses.{Room, Listed};
 ghost use Rattle.step_exports.specs.Row.{blackFrom};
 ghost use Rattle.step_exports.specs.Steps.{Guarded, refusedAnswer, numberIn, shapeIn};
 use crate::guards::REFUSED;

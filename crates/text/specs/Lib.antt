@@ -1,3 +1,3 @@
--- `Text` has the definitions, `TextLaws` what the proofs cite.
+-- `Text` has the definitions, `TextLaws` what holds of text put into a buffer and of the length of a number.
 pub mod Text
 pub mod TextLaws

@@ -1,7 +1,9 @@
 // What the Rust host calls. A slice crosses as its pointer and its length, a report as a C struct of four u32.
 ghost use mathlib.Core.Path.{_≡_};
-ghost use Rattle.crop.specs.Crop.{refusal};
-ghost use Rattle.crop.specs.Unpack.{Unpacks};
+ghost use lib.ListN.{length};
+ghost use Rattle.crop.specs.Crop.{refusal, Unpacks};
+ghost use Rattle.text.specs.Text.{Puts};
+ghost use Rattle.text_run.specs.RunText.{fittingText};
 ghost use Rattle.detector.specs.Detector.{run, wordsRun, filed, fileRun};
 use detector::Report;
 
@@ -30,7 +32,8 @@ pub extern "C" fn maxicode_search_words(
     records: &mut [u32],
     marks: &mut [u64],
 ) -> Report
-    ensures { λ r. ⌜ run r (now (records .exit)) (now (marks .exit)) ≡ wordsRun (now (words .entry)) width height (now (records .entry)) (now (marks .entry)) ⌝ }
+    ensures { λ r. ⌜ run r (now (records .exit)) (now (marks .exit))
+        ≡ wordsRun (now (words .entry)) width height (now (records .entry)) (now (marks .entry)) ⌝ }
 {
     detector::search_words(words, width, height, records, marks)
 }
@@ -43,7 +46,25 @@ pub extern "C" fn maxicode_search_file(
     records: &mut [u32],
     marks: &mut [u64],
 ) -> Report
-    ensures { λ r. ⌜ filed (now (words .exit)) (run r (now (records .exit)) (now (marks .exit))) ≡ fileRun (now (file .entry)) (now (words .entry)) (now (records .entry)) (now (marks .entry)) ⌝ }
+    ensures { λ r. ⌜ filed (now (words .exit)) (run r (now (records .exit)) (now (marks .exit)))
+        ≡ fileRun (now (file .entry)) (now (words .entry)) (now (records .entry)) (now (marks .entry)) ⌝ }
 {
     detector::search_file(file, words, records, marks)
+}
+
+// The lines of a run as text in a lent buffer, and how long they are. A buffer of less than 80 + 200 * kept bytes, or fewer records lent than kept: nothing
+// is written, and the length is 0.
+#[no_mangle]
+pub extern "C" fn maxicode_lines(
+    answer: u32,
+    found: u32,
+    kept: u32,
+    marked: u32,
+    records: &[u32],
+    text: &mut [u8],
+) -> usize
+    ensures { λ r. ⌜ Puts (fittingText (length (now (text .entry))) answer found kept marked (now (records .entry))) 0 (now (text .entry)) r
+        (now (text .exit)) ⌝ }
+{
+    text_run::put_fitting(text, answer, found, kept, marked, records)
 }

@@ -14,7 +14,7 @@ use lib.Bits.{bitAnd, bitOr, and-mask}
 use lib.Dec.{eqb, lit<}
 use lib.Pow.{shl-exact}
 use Rattle.reads.specs.Bits.{testBit, setBit, bitAt, mark}
-use Rattle.reads.specs.Runs.{Ran}
+use Rattle.reads.specs.RunsClauses.{Ran}
 use Rattle.reads.specs.RunsLaws.{ran-done, ran-read, ran-then, ran-else}
 use Rattle.bit_matrix.specs.declared.Shape.{Shape}
 use Rattle.bit_matrix.specs.Shape.{size}

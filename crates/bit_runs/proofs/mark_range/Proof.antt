@@ -7,9 +7,9 @@ use native.Mathlib.Omega.{arith}
 use borrow.Author.Needs.{needs}
 use lib.Bits.{bitOr}
 use lib.ListN.{length, getD, set}
-use Rattle.reads.specs.Bits.{mask, markAll, range}
+use Rattle.reads.specs.MasksLaws.{mask, marked-word, marked-past}
+use Rattle.reads.specs.Bits.{markAll, range}
 use Rattle.reads.specs.BitsLaws.{length-markAll, range-join}
-use Rattle.reads.specs.MasksLaws.{marked-word, marked-past}
 use Rattle.bit_runs.proofs.mark_range.Statement.{statement}
 use Rattle.bit_runs.proofs.mark_range.Tie as tie
 

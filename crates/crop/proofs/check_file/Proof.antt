@@ -9,10 +9,12 @@ use borrow.Author.Tests.{ne-eqb}
 use lib.ListN.{length}
 use Rattle.bit_matrix.specs.declared.Shape.{Shape}
 use Rattle.bit_matrix.specs.Shape.{shapeOf, Limits}
-use Rattle.crop.specs.Chain.{chain, chain-here, chain-next, else-kept, else-next}
-use Rattle.crop.specs.Crop.{header, width, height, fileShape, fileLength, filePadded, badHeader}
-use Rattle.crop.specs.Crop.{sizeRefusal, refusalOf, fileKind, leastSide, refusal, Checks}
-use Rattle.crop.specs.CropLaws.{rows-of, size-within}
+use Rattle.crop_sizes.specs.ChainLaws.{chain, chain-here, chain-next}
+use Rattle.crop_sizes.specs.Sizes.{fileLength, leastSide, imageRefusal}
+use Rattle.crop_sizes.specs.SizesLaws.{rows-of, image-within, size-kept, size-next}
+use Rattle.crop_padding.specs.Padding.{filePadded}
+use Rattle.crop.specs.Crop.{header, width, height, fileShape, badHeader, refusalOf, fileKind, refusal}
+use Rattle.crop.specs.CropClauses.{Checks}
 use Rattle.crop.specs.declared.Checked.{Checked}
 use Rattle.crop.proofs.check_file.Statement.{statement}
 use Rattle.crop.proofs.check_file.Tie as tie
@@ -45,26 +47,23 @@ module _ (file : List ℕ) {head : ℕ} (is : head ≡ header file) where
   shape-is made = made ∙ ap (λ (n : ℕ). shapeOf (n / 2 ^ 16 % 2 ^ 12) (n / 2 ^ 4 % 2 ^ 12)) is
 
 module _ (file : List ℕ) {shape : Shape} (is : shape ≡ fileShape file) {needed answer : ℕ} (long : needed ≡ fileLength (shape .width) (shape .height))
-    (sized : answer ≡ sizeRefusal leastSide shape (length file) needed) where
+    (sized : answer ≡ imageRefusal leastSide shape (length file) needed false false) where
   module _ (zero : answer ≡ 0) where
-    within : Limits shape × (length file ≡ needed)
-    within = size-within leastSide (omega arith) shape (length file) needed (rows-of is) (sym sized ∙ zero)
-
     limited : Limits shape
-    limited = within .0
+    limited = image-within leastSide (omega arith) shape (length file) needed _ _ (rows-of is) (sym sized ∙ zero) .0
 
     fitting : length file ≡ fileLength (shape .width) (shape .height)
-    fitting = within .1 ∙ long
+    fitting = image-within leastSide (omega arith) shape (length file) needed _ _ (rows-of is) (sym sized ∙ zero) .1 ∙ long
 
-  size-is : answer ≡ sizeRefusal leastSide (fileShape file) (length file) (fileLength (width file) (height file))
+  size-is : answer ≡ imageRefusal leastSide (fileShape file) (length file) (fileLength (width file) (height file)) false false
   size-is =
       sized
-      ∙ ap₂ (λ (s : Shape) (n : ℕ). sizeRefusal leastSide s (length file) n) is (long ∙ ap (λ (s : Shape). fileLength (s .width) (s .height)) is)
+      ∙ ap₂ (λ (s : Shape) (n : ℕ). imageRefusal leastSide s (length file) n false false) is (long ∙ ap (λ (s : Shape). fileLength (s .width) (s .height)) is)
 
   module _ (good : badHeader fileKind file ≡ false) where
     bad-size : {r : Checked} → r ≡ numbered answer → (answer ≡ 0 → ⊥) → Checks file r
     unfolding refusalOf
-    bad-size made ne = refused-by file made (chain-next 1 _ good (else-kept _ size-is ne)) ne
+    bad-size made ne = refused-by file made (chain-next 1 _ good (size-kept _ _ _ _ _ _ size-is ne)) ne
 
     module _ (zero : answer ≡ 0) {padded : Bool} (tested : padded ≡ filePadded file (shape .width) (shape .height)) where
       tested-is : filePadded file (width file) (height file) ≡ padded
@@ -73,12 +72,12 @@ module _ (file : List ℕ) {shape : Shape} (is : shape ≡ fileShape file) {need
       bad-padding : {r : Checked} → r ≡ numbered 5 → padded ≡ true → Checks file r
       unfolding refusalOf
       bad-padding made set =
-          refused-by file made (chain-next 1 _ good (else-next _ size-is zero (chain-here 5 _ (tested-is ∙ set) refl))) λ e. omega arith
+          refused-by file made (chain-next 1 _ good (size-next _ _ _ _ _ _ size-is zero (chain-here 5 _ (tested-is ∙ set) refl))) λ e. omega arith
 
       accepted : padded ≡ false → Checks file (record { answer = 0; shape = shape })
       unfolding refusalOf
       accepted clean = record {
-        answer = chain-next 1 _ good (else-next _ size-is zero (chain-next 5 _ (tested-is ∙ clean) refl));
+        answer = chain-next 1 _ good (size-next _ _ _ _ _ _ size-is zero (chain-next 5 _ (tested-is ∙ clean) refl));
         shape = is;
       }
 

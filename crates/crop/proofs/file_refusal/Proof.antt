@@ -1,22 +1,24 @@
 -- `crop::file_refusal` meets its contract: at each return, the tests that led there decide the definition's. Assumes nothing.
 use Prim.Native.Nat.{ℕ}
+use mathlib.Core.Bool.{Bool, cond, _||_}
 use mathlib.Core.Path.{_≡_, ap, _∙_}
 use borrow.Author.Needs.{needs}
-use Rattle.crop.specs.Chain.{else-kept, else-next}
-use Rattle.crop.specs.Crop.{orElse, searchRoom}
+use Rattle.crop.specs.Crop.{noRoom}
+use Rattle.crop.specs.CropClauses.{orSix}
+use Rattle.crop.specs.CropLaws.{six-more, six-last}
 use Rattle.crop.proofs.file_refusal.Statement.{statement}
 use Rattle.crop.proofs.file_refusal.Tie as tie
 
 -- the room by the image's words, as they were worked out
-onward : {answer first n needed r : ℕ} (marks records : ℕ) → answer ≡ first → answer ≡ 0 → n ≡ needed → r ≡ searchRoom n marks records
-    → r ≡ orElse first (searchRoom needed marks records)
-onward marks records e zero is room = else-next _ e zero (room ∙ ap (λ (n : ℕ). searchRoom n marks records) is)
+onward : (number : ℕ) (unfit : Bool) {answer n needed r : ℕ} (marks records : ℕ) → answer ≡ orSix number unfit → answer ≡ 0 → n ≡ needed
+    → r ≡ cond (noRoom n marks records) 6 0 → r ≡ orSix number (unfit || noRoom needed marks records)
+onward number unfit marks records e zero is room = six-last number unfit _ e zero (room ∙ ap (λ (n : ℕ). cond (noRoom n marks records) 6 0) is)
 
 unpack-refusal-requires : tie.Need-unpack-refusal-requires
 unpack-refusal-requires c κs = search needs
 
 returns : tie.Need-returns
-returns c = search else-kept
+returns c = search six-more
 
 image-words-requires : tie.Need-image-words-requires
 image-words-requires c κs = search needs

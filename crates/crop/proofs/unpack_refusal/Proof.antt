@@ -3,23 +3,23 @@ use Prim.Native.Nat.{ℕ}
 use mathlib.Core.Path.{_≡_, refl, sym, _∙_}
 use borrow.Author.Needs.{needs}
 use borrow.Author.Tests.{eq-eqb, ne-eqb}
-use Rattle.crop.specs.Chain.{chain-here, chain-next, not-holds, not-fails, else-kept, else-next}
-use Rattle.crop.specs.Crop.{unpackRoom, unpackAnswer}
+use Rattle.crop_sizes.specs.ChainLaws.{chain-here, chain-next, not-holds, not-fails}
+use Rattle.crop_sizes.specs.Sizes.{misfit}
+use Rattle.crop.specs.CropClauses.{orSix}
+use Rattle.crop.specs.CropLaws.{six-kept, six-next}
 use Rattle.crop.proofs.unpack_refusal.Statement.{statement}
 use Rattle.crop.proofs.unpack_refusal.Tie as tie
 
 -- the lengths against the image's words, as they were worked out
 module _ {answer n needed : ℕ} (words : ℕ) (zero : answer ≡ 0) (is : n ≡ needed) where
-  misfitting : (words ≡ n → ⊥) → 6 ≡ unpackAnswer answer needed words
-  unfolding unpackRoom
-  misfitting other = else-next _ refl zero (chain-here _ _ (not-holds (ne-eqb words needed λ e. other (e ∙ sym is))) refl)
+  misfitting : (words ≡ n → ⊥) → 6 ≡ orSix answer (misfit words needed)
+  misfitting other = six-next _ zero (chain-here _ _ (not-holds (ne-eqb words needed λ e. other (e ∙ sym is))) refl)
 
-  fitting : words ≡ n → 0 ≡ unpackAnswer answer needed words
-  unfolding unpackRoom
-  fitting same = else-next _ refl zero (chain-next _ _ (not-fails (eq-eqb words needed (same ∙ is))) refl)
+  fitting : words ≡ n → 0 ≡ orSix answer (misfit words needed)
+  fitting same = six-next _ zero (chain-next _ _ (not-fails (eq-eqb words needed (same ∙ is))) refl)
 
 returns : tie.Need-returns
-returns c = search else-kept
+returns c = search six-kept
 
 image-words-requires : tie.Need-image-words-requires
 image-words-requires c κs = search needs

@@ -13,9 +13,23 @@ use mir.ValLaws.{toZ-pos}
 use Rattle.bit_matrix.specs.declared.Shape.{Shape}
 use Rattle.rxing_result_point.specs.declared.PointU.{PointU}
 use Rattle.detector_boundary.specs.declared.Boundary.{Boundary}
-use Rattle.detector_boundary.specs.Boundary.{Centered, clamped, leftShift, rightShift, boundaryOf}
+use Rattle.detector_boundary.specs.Boundary.{clamped, leftShift, rightShift, boundaryOf}
+use Rattle.detector_boundary.specs.BoundaryClauses.{Centered}
 use Rattle.detector_boundary.specs.ShiftLaws.{Natural, left-shift, right-shift}
-use Rattle.detector_boundary.proofs.Signed.{read, natural-read, half-is, half-fits, less-fits, more-fits, less-read, more-read, margin-fits, margin-read, margin-range, size-range}
+use Rattle.detector_boundary.proofs.Signed.{
+  read,
+  natural-read,
+  half-is,
+  half-fits,
+  less-fits,
+  more-fits,
+  less-read,
+  more-read,
+  margin-fits,
+  margin-read,
+  margin-range,
+  size-range,
+}
 use Rattle.detector_boundary.proofs.calculate_simple_boundary.Statement.{statement}
 use Rattle.detector_boundary.proofs.calculate_simple_boundary.Tie as tie
 
@@ -65,7 +79,8 @@ module _ {shape : Shape} {center : PointU} (p : Centered shape center) where
           → r ≡ clamped (pos x -ℤ leftShift across) 0 (width - 33)
       left-is g =
           g
-          ∙ ap₂ (λ (z i : ℤ). clamped z 0 (natAbs i)) (less-read x _ v column left-few left-read) (margin-read width 33 (omega arith) (p .limits .width-least) (p .limits .width-most))
+          ∙ ap₂ (λ (z i : ℤ). clamped z 0 (natAbs i)) (less-read x _ v column left-few left-read)
+          (margin-read width 33 (omega arith) (p .limits .width-least) (p .limits .width-most))
           ∙ ap (λ (z : ℤ). clamped (pos x -ℤ z) 0 (width - 33)) (sym (left .is))
 
     module _ (f : v ≡ toSigned 31 (add binary32 (half w) (part w))) where
@@ -114,7 +129,8 @@ module _ {shape : Shape} {center : PointU} (p : Centered shape center) where
         → r ≡ clamped (pos y -ℤ pos (tall / 2)) 0 (height - 30)
     bottom-is g =
         g
-        ∙ ap₂ (λ (z i : ℤ). clamped z 0 (natAbs i)) (less-read y _ upDown row half-few half-read) (margin-read height 30 (omega arith) (p .limits .height-least) (p .limits .height-most))
+        ∙ ap₂ (λ (z i : ℤ). clamped z 0 (natAbs i)) (less-read y _ upDown row half-few half-read)
+        (margin-read height 30 (omega arith) (p .limits .height-least) (p .limits .height-most))
 
 -- ---- the needs
 cast-up-down-shift : tie.Need-cast-up-down-shift

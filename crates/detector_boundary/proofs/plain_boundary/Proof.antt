@@ -2,7 +2,7 @@
 use native.Mathlib.Omega.{arith}
 use mathlib.Core.Path.{sym, subst}
 use borrow.Author.Needs.{needs}
-use Rattle.detector_boundary.specs.SizeLaws.{Sized, plain-sized}
+use Rattle.detector_size.specs.SizeLaws.{Sized, plain-sized}
 use Rattle.detector_boundary.proofs.plain_boundary.Statement.{statement}
 use Rattle.detector_boundary.proofs.plain_boundary.Tie as tie
 

@@ -2,7 +2,7 @@
 use native.Mathlib.Omega.{arith}
 use mathlib.Core.Path.{sym, subst}
 use borrow.Author.Needs.{needs}
-use Rattle.detector_boundary.specs.SizeLaws.{Sized, scaled-sized}
+use Rattle.detector_size.specs.SizeLaws.{Sized, scaled-sized}
 use Rattle.detector_boundary.proofs.scaled_boundary.Statement.{statement}
 use Rattle.detector_boundary.proofs.scaled_boundary.Tie as tie
 

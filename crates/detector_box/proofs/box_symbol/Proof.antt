@@ -4,19 +4,22 @@ use native.Mathlib.Omega.{arith}
 use mathlib.Core.List.{List}
 use mathlib.Core.Path.{_≡_}
 use lib.Ieee.{Float}
-use Rattle.reads.specs.Runs.{Ran}
+use Rattle.reads.specs.RunsClauses.{Ran}
 use Rattle.reads.specs.RunsLaws.{ran-bind, ran-is, always-ran}
 use Rattle.bit_matrix.specs.declared.Shape.{Shape}
 use Rattle.rxing_result_point.specs.declared.Point.{Point}
 use Rattle.detector_boundary.specs.declared.Boundary.{Boundary}
 use Rattle.detector_boundary.specs.Boundary.{plainBoundary}
-use Rattle.detector_boundary.specs.InImage.{Placed, plain-placed}
+use Rattle.detector_boundary.specs.InImageLaws.{plain-placed}
+use Rattle.detector_boundary.specs.BoundaryClauses.{Placed}
 use Rattle.detector_circle.specs.declared.Circle.{Circle}
-use Rattle.detector_turn.specs.declared.Turn.{Turn}
-use Rattle.detector_turn.specs.Outcomes.{classOf}
-use Rattle.detector_turn.specs.Scales.{LentCircle, tryScales}
+use Rattle.detector_outcome.specs.declared.Turn.{Turn}
+use Rattle.detector_outcome.specs.Outcomes.{classOf}
+use Rattle.detector_turn.specs.Scales.{tryScales}
+use Rattle.detector_turn.specs.ScalesClauses.{LentCircle}
 use Rattle.detector_turn.specs.ScalesLaws.{centered-of, ended}
-use Rattle.detector_box.specs.Boxes.{cornersOf, symbolAt}
+use Rattle.detector_box.specs.Boxes.{symbolAt}
+use Rattle.detector_corners.specs.Corners.{cornersOf}
 use borrow.Author.Needs.{needs}
 use Rattle.detector_box.proofs.box_symbol.Statement.{statement}
 use Rattle.detector_box.proofs.box_symbol.Tie as tie

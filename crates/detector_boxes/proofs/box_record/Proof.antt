@@ -4,16 +4,18 @@ use mathlib.Core.Path.{_≡_}
 use mathlib.Core.List.{List}
 use borrow.Author.Needs.{needs}
 use lib.Ieee.{Float}
-use Rattle.reads.specs.Runs.{Ran}
+use Rattle.reads.specs.RunsClauses.{Ran}
 use Rattle.reads.specs.RunsLaws.{ran-bind, ran-is}
 use Rattle.bit_matrix.specs.declared.Shape.{Shape}
 use Rattle.bit_matrix.specs.Shape.{Image}
 use Rattle.sines.specs.Sines.{sines}
 use Rattle.records.specs.Records.{Record}
-use Rattle.detector_turn.specs.Scales.{LentCircle}
-use Rattle.detector_box.specs.Boxes.{symbolAt, withSymbol}
-use Rattle.detector_box.specs.declared.Symbol.{Symbol}
-use Rattle.detector_boxes.specs.Boxing.{circleOf, boxed, Boxable}
+use Rattle.detector_turn.specs.ScalesClauses.{LentCircle}
+use Rattle.detector_box.specs.Boxes.{symbolAt}
+use Rattle.detector_symbol.specs.Symbols.{withSymbol}
+use Rattle.detector_symbol.specs.declared.Symbol.{Symbol}
+use Rattle.detector_boxes.specs.Boxing.{circleOf, boxed}
+use Rattle.detector_boxes.specs.BoxingClauses.{Boxable}
 use Rattle.detector_boxes.proofs.box_record.Statement.{statement}
 use Rattle.detector_boxes.proofs.box_record.Tie as tie
 

@@ -9,14 +9,16 @@ use mathlib.Core.List.{List, [], _∷_, _++_}
 use borrow.Author.Needs.{needs}
 use lib.ListN.{length, getD, take, drop, set}
 use lib.Seq.{take-suc-set, drop-set-lt, drop-cons, drop-drop, drop-length, take-all, getD-drop}
-use Rattle.reads.specs.Runs.{Ran, Resumes}
+use Rattle.reads.specs.RunsClauses.{Ran, Resumes}
 use Rattle.reads.specs.RunsLaws.{ran-done, resumes-start, resumes-step, resumes-end}
 use Rattle.bit_matrix.specs.declared.Shape.{Shape}
-use Rattle.records.specs.Records.{Record, rows, get, put, Became, Beside, Each}
-use Rattle.records.specs.RecordsLaws.{length-rows, get-row, replaced, beside-start, beside-then, beside-room, each-at}
+use Rattle.records.specs.Records.{Record, rows}
+use Rattle.records.specs.RecordsClauses.{get, put, Became, Each}
+use Rattle.records.specs.RecordsLaws.{Beside, length-rows, get-row, replaced, beside-start, beside-then, beside-room, each-at}
 use Rattle.bit_matrix.specs.Shape.{Image}
 use Rattle.bit_matrix.specs.ShapeLaws.{image-kept}
-use Rattle.detector_boxes.specs.Boxing.{boxed, boxedAll, Boxable, AllBoxable, Boxed}
+use Rattle.detector_boxes.specs.Boxing.{boxed, boxedAll}
+use Rattle.detector_boxes.specs.BoxingClauses.{Boxable, AllBoxable, Boxed}
 use Rattle.detector_boxes.proofs.OneByOne.{boxedFrom, all-at-once}
 use Rattle.detector_boxes.proofs.box_records.Statement.{statement}
 use Rattle.detector_boxes.proofs.box_records.Tie as tie

@@ -10,16 +10,16 @@ use borrow.Author.Tests.{lt-ltb, le-ltb}
 use lib.Dec.{ltb}
 use lib.ListN.{length, drop}
 use Rattle.reads.specs.Reads.{Reads, done}
-use Rattle.reads.specs.Runs.{valueOf, Ran, Resumes}
+use Rattle.reads.specs.Runs.{valueOf}
+use Rattle.reads.specs.RunsClauses.{Ran, Resumes}
 use Rattle.reads.specs.RunsLaws.{ran-done, always-ran, resumes-start, resumes-step, resumes-then, resumes-else, resumes-end}
 use Rattle.records.specs.Records.{Record, rows}
 use Rattle.records.specs.RecordsLaws.{length-rows}
 use Rattle.bit_matrix.specs.declared.Shape.{Shape}
 use Rattle.bit_matrix.specs.Shape.{Image}
 use Rattle.bit_matrix.specs.ShapeLaws.{image-kept}
-use Rattle.detector_candidates.specs.Candidates.{rowFrom, rowsBy, rowsFrom, concentricCirclesBy, concentricCircles, Room, Listed}
-use Rattle.bit_matrix.specs.declared.Shape.{Shape}
-use Rattle.bit_matrix.specs.Shape.{Image}
+use Rattle.detector_candidates.specs.CandidatesClauses.{rowFrom, rowsFrom, Room, Listed}
+use Rattle.detector_candidates.specs.Candidates.{rowsBy, concentricCirclesBy, concentricCircles}
 use Rattle.detector_candidates.specs.CandidatesLaws.{row-more}
 use Rattle.detector_candidates.proofs.Storing.{stored-all, stored-rows, stored-rest, stored-since}
 use Rattle.detector_candidates.proofs.find_concentric_circles.Statement.{statement}

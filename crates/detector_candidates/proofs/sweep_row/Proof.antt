@@ -11,16 +11,19 @@ use borrow.Author.Tests.{lt-ltb, le-ltb}
 use lib.Dec.{ltb}
 use lib.ListN.{length, drop}
 use Rattle.reads.specs.Reads.{Reads, done}
-use Rattle.reads.specs.Runs.{Ran, Resumes}
+use Rattle.reads.specs.RunsClauses.{Ran, Resumes}
 use Rattle.reads.specs.RunsLaws.{ran-done, always-ran, resumes-start, resumes-step, resumes-then, resumes-else, resumes-end}
 use Rattle.records.specs.Records.{Record, rows}
 use Rattle.records.specs.RecordsLaws.{length-rows}
 use Rattle.bit_matrix.specs.declared.Shape.{Shape}
 use Rattle.bit_matrix.specs.Shape.{Image}
 use Rattle.bit_matrix.specs.ShapeLaws.{image-kept}
-use Rattle.detector_candidates.specs.Candidates.{Searchable, searchFrom, after, rowBy, rowFrom, Room, Stored, Listed}
-use Rattle.detector_candidates.specs.CandidatesLaws.{FitSearch, search-fit, searchable-first, searchable-next, after-more}
-use Rattle.detector_candidates.specs.declared.Searched.{Searched}
+use Rattle.detector_candidate.specs.CandidateClauses.{Searchable, searchFrom}
+use Rattle.detector_candidates.specs.CandidatesClauses.{rowFrom, Room, Stored, Listed}
+use Rattle.detector_candidates.specs.Candidates.{after, rowBy}
+use Rattle.detector_candidate.specs.CandidateLaws.{FitSearch, search-fit, searchable-first, searchable-next}
+use Rattle.detector_candidates.specs.CandidatesLaws.{after-more}
+use Rattle.detector_candidate.specs.declared.Searched.{Searched}
 use Rattle.detector_candidates.proofs.Storing.{stored-rows, stored-rest, stored-since}
 use Rattle.detector_candidates.proofs.sweep_row.Statement.{statement}
 use Rattle.detector_candidates.proofs.sweep_row.Tie as tie

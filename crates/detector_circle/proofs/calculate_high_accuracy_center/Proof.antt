@@ -20,8 +20,10 @@ use ghost.Atoms.{Atoms, sem}
 use contract.Monad.{Fun, fact}
 use contract.Running.{givenOf, tables, tablesOf}
 use contract.Lifetimes.{AllOutlive}
-use types.Kit.{Given, ‵, raw, some, later, _⊛_, ⋆, _$_, _∵_, !, qed, by, move, keep, drop, use1, use3, split, join, pick, rewrite, fsplit, fsplit3, fjoin, fjoin3, feqL, feqI, suffices, frame, await, done}
-use types.Run.{look, init, forget, stop, hop, fld, from, load, addr, unit-lit, of-opd, and-then, no-more, assigns, land, returns, enter, alloc1, alloc0, params1, pass1, pass0, free1, free0}
+use types.Kit.{Given, ‵, raw, some, later, _⊛_, ⋆, _$_, _∵_, !, qed, by, move, keep, drop, use1, use3, split, join, pick}
+use types.Kit.{rewrite, fsplit, fsplit3, fjoin, fjoin3, feqL, feqI, suffices, frame, await, done}
+use types.Run.{look, init, forget, stop, hop, fld, from, load, addr, unit-lit, of-opd, and-then}
+use types.Run.{no-more, assigns, land, returns, enter, alloc1, alloc0, params1, pass1, pass0, free1, free0}
 use types.Part.{agg, whole, sub, look-in, store-in}
 use types.SemTy.{Body}
 use sound.WpLaws.{FmC, fmOf, WpFn-mono}
@@ -40,15 +42,16 @@ use denote.Triple.Statement.{Contract, Triple}
 use denote.Triple.Call.{calls-at}
 use denote.Triple.Clauses.{ensured, lasts}
 use denote.Triple.Table.{entered, cited}
-use denote.Triple.Walked.{says, needs, Stays, stay-ref, stay-none, stay-none-ref, stay-none-slice, gave-slice, walkOf, goes-ref, goes-none, goes-none-ref, goes-none-slice, goes-gave-slice, Walks, ends-at, walked, walk-meets}
+use denote.Triple.Walked.{says, needs, Stays, stay-ref, stay-none, stay-none-ref, stay-none-slice, gave-slice}
+use denote.Triple.Walked.{walkOf, goes-ref, goes-none, goes-none-ref, goes-none-slice, goes-gave-slice, Walks, ends-at, walked, walk-meets}
 use denote.Exit.{yes}
 use denote.Signature.{plain}
-use Rattle.reads.specs.Runs.{Ran}
+use Rattle.reads.specs.RunsClauses.{Ran}
 use Rattle.reads.specs.RunsLaws.{ran-bind, ran-done}
 use Rattle.bit_matrix.specs.declared.Shape.{Shape}
 use Rattle.bit_matrix.proofs.Shape as S
 use Rattle.bit_matrix.proofs.Shape.Laws as S′
-use Rattle.detector_walks.specs.Walks.{Lent}
+use Rattle.detector_walks.specs.WalksClauses.{Lent}
 use Rattle.detector_center.specs.Center.{corrected}
 use Rattle.rxing_result_point.specs.declared.PointU.{PointU}
 use Rattle.rxing_result_point.proofs.PointU as P
@@ -181,7 +184,8 @@ module _ {M : Type 1} (𝓤 : URA M) (H : Heap 𝓤) (A : Atoms 𝓤) (W : Given
         (WpFn 𝓤 H C Λ code.function (vptr b o ∷ sw ∷ sm ∷ S′.lowered shape ∷ st ∷ []) Post)
     walk room-w room-m asked =
         qed W ((‵ (flft κ q) ⊛ ‵ (flft κw qw) ⊛ ‵ (flft κm qm) ⊛ ‵ (flft κt qt) ⊛ ‵ ftrue) ∷
-        ‵ (owns (MutRef (named 0) κ T.the-row ∷ ShrSlice (named 1) κw u64 ∷ MutSlice (named 2) κm u64 ∷ S.the-row ∷ ShrRef (named 3) κt Table ∷ []) a vals) ∷ []) ∵
+        ‵ (owns (MutRef (named 0) κ T.the-row ∷ ShrSlice (named 1) κw u64 ∷ MutSlice (named 2) κm u64 ∷ S.the-row ∷ ShrRef (named 3) κt Table ∷ [])
+        a vals) ∷ []) ∵
         enter ! C Λ code.function (vptr b o ∷ sw ∷ sm ∷ S′.lowered shape ∷ st ∷ []) _ $
         alloc1 ! (λ l₀. alloc1 ! (λ l₁. alloc1 ! (λ l₂. alloc1 ! (λ l₃.
         alloc1 ! (λ l₄. alloc1 ! (λ l₅. alloc1 ! (λ l₆. alloc1 ! (λ l₇. alloc1 ! (λ l₈. alloc1 ! (λ l₉. alloc0 ! $ params1 ! $

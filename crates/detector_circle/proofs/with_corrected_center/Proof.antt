@@ -20,8 +20,10 @@ use ghost.Atoms.{Atoms, sem}
 use contract.Monad.{Fun, fact}
 use contract.Running.{givenOf, tables, tablesOf}
 use contract.Lifetimes.{AllOutlive}
-use types.Kit.{Given, ‵, raw, some, later, _⊛_, ⋆, _$_, _∵_, !, qed, by, move, keep, drop, use1, use2, use3, split, join, pick, fsplit, fjoin, feqL, suffices, frame, await, done}
-use types.Run.{look, init, forget, stop, hop, fld, from, load, addr, of-opd, and-then, no-more, assigns, land, returns, enter, alloc1, alloc0, params1, pass1, pass0, free1, free0}
+use types.Kit.{Given, ‵, raw, some, later, _⊛_, ⋆, _$_, _∵_, !, qed, by, move, keep, drop, use1, use2, use3, split, join, pick}
+use types.Kit.{fsplit, fjoin, feqL, suffices, frame, await, done}
+use types.Run.{look, init, forget, stop, hop, fld, from, load, addr, of-opd, and-then}
+use types.Run.{no-more, assigns, land, returns, enter, alloc1, alloc0, params1, pass1, pass0, free1, free0}
 use types.Part.{agg, whole, sub, look-in}
 use types.SemTy.{Body}
 use types.Tokens.{lft-new, lft-end}
@@ -43,14 +45,15 @@ use denote.Triple.Statement.{Contract, Triple}
 use denote.Triple.Call.{calls-at}
 use denote.Triple.Clauses.{ensured, lasts}
 use denote.Triple.Table.{entered, cited}
-use denote.Triple.Walked.{says, needs, Stays, stay-none, stay-none-ref, stay-none-slice, gave-slice, walkOf, goes-none, goes-none-ref, goes-none-slice, goes-gave-slice, Walks, ends-at, walked, walk-meets}
+use denote.Triple.Walked.{says, needs, Stays, stay-none, stay-none-ref, stay-none-slice, gave-slice}
+use denote.Triple.Walked.{walkOf, goes-none, goes-none-ref, goes-none-slice, goes-gave-slice, Walks, ends-at, walked, walk-meets}
 use denote.Exit.{yes}
 use denote.Signature.{plain}
-use Rattle.reads.specs.Runs.{Ran}
+use Rattle.reads.specs.RunsClauses.{Ran}
 use Rattle.bit_matrix.specs.declared.Shape.{Shape}
 use Rattle.bit_matrix.proofs.Shape as S
 use Rattle.bit_matrix.proofs.Shape.Laws as S′
-use Rattle.detector_walks.specs.Walks.{Lent}
+use Rattle.detector_walks.specs.WalksClauses.{Lent}
 use Rattle.detector_circle.specs.declared.Circle.{Circle}
 use Rattle.detector_circle.specs.Circle.{correctedCircle}
 use Rattle.detector_circle.proofs.Circle as T

@@ -1,7 +1,7 @@
 -- `detector_columns::get_column_vector` meets its contract. The invariant is `Looking`: from the present row, what is left of the definition ends as the
 -- whole does, and a run has room for the rows left. The measure is the rows left. Assumes nothing.
 use Prim.Native.Nat.{ℕ, suc, _+_, _-_, _^_, _≤_, _<_}
-use mathlib.Core.Path.{_≡_, refl, _∙_}
+use mathlib.Core.Path.{_≡_, refl}
 use mathlib.Core.Bool.{Bool, true, false, cond}
 use mathlib.Core.List.{List}
 use native.Mathlib.Omega.{arith}
@@ -10,7 +10,7 @@ use borrow.Author.Tests.{ltb-true, ltb-false, lt-ltb, le-ltb}
 use lib.Dec.{ltb}
 use lib.ListN.{length, set, replicate, length-set}
 use Rattle.reads.specs.BitsLaws.{getD-zeros}
-use Rattle.reads.specs.Runs.{Ran, Resumes}
+use Rattle.reads.specs.RunsClauses.{Ran, Resumes}
 use Rattle.reads.specs.RunsLaws.{ran-done, resumes-start, resumes-step, resumes-then, resumes-else, resumes-end}
 use Rattle.bit_matrix.specs.declared.Shape.{Shape}
 use Rattle.bit_matrix.specs.Shape.{Image}

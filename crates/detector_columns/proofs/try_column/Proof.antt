@@ -6,12 +6,13 @@ use mathlib.Core.Bool.{Bool, true, false}
 use mathlib.Core.List.{List}
 use native.Mathlib.Omega.{arith}
 use borrow.Author.Needs.{needs}
-use Rattle.reads.specs.Runs.{Ran}
+use Rattle.reads.specs.RunsClauses.{Ran}
 use Rattle.reads.specs.RunsLaws.{ran-bind, ran-is, always-ran}
 use Rattle.bit_matrix.specs.declared.Shape.{Shape}
 use Rattle.bit_matrix.specs.Shape.{Limits}
 use Rattle.detector_widths.specs.Widths.{at, validWidths}
-use Rattle.detector_columns.specs.Columns.{columnVector, potentialBullseyeArray, potentialBullseye, tryColumnBy, tryColumn}
+use Rattle.detector_columns.specs.Columns.{columnVector, potentialBullseyeArray, potentialBullseye, tryColumnBy}
+use Rattle.detector_columns.specs.ColumnsClauses.{tryColumn}
 use Rattle.detector_columns.specs.ColumnsLaws.{column-vector-le}
 use Rattle.detector_columns.proofs.try_column.Statement.{statement}
 use Rattle.detector_columns.proofs.try_column.Tie as tie

@@ -13,7 +13,8 @@ use Rattle.detector_degrees.proofs.Listing.{Listing, starts, lists, lis
 use Rattle.detector_degrees.proofs.offsets_past.Statement.{statement}
 use Rattle.detector_degrees.proofs.offsets_past.Tie as tie
 
-onward : (center x : Float) (groups : List (List PointU)) (row : Bool) {offsets : List Float} {k n : ℕ} → Listing (offsetPast center groups row) offsets k → k < 18
+onward : (center x : Float) (groups : List (List PointU)) (row : Bool) {offsets : List Float} {k n : ℕ}
+    → Listing (offsetPast center groups row) offsets k → k < 18
     → n ≡ coordinateOf groups k row → x ≡ real n → Listing (offsetPast center groups row) (set offsets k (sub binary32 x center)) (k + 1)
 onward center _ groups row listing h e f = lists listing h (ap (λ (y : Float). sub binary32 y center) (f ∙ ap real e))
 

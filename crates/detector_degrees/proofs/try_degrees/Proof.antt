@@ -5,20 +5,22 @@ use mathlib.Core.List.{List}
 use mathlib.Core.Path.{_≡_}
 use borrow.Author.Needs.{needs}
 use lib.Ieee.{Float}
-use Rattle.reads.specs.Runs.{Ran}
+use Rattle.reads.specs.RunsClauses.{Ran}
 use Rattle.bit_matrix.specs.declared.Shape.{Shape}
 use Rattle.rxing_result_point.specs.declared.PointU.{PointU}
 use Rattle.rxing_result_point.specs.Points.{real}
-use Rattle.detector_degrees.specs.Degrees.{tryDegrees}
-use Rattle.detector_degrees.specs.Offsets.{offsetPast, EachPoint, tryOffsets}
-use Rattle.detector_degrees.specs.OffsetsLaws.{same-degrees}
+use Rattle.detector_colours.specs.Looks.{lookOffset}
+use Rattle.detector_degrees.specs.Degrees.{degreesFrom, tryDegrees}
+use Rattle.detector_degrees.specs.Offsets.{offsetPast, EachPoint}
+use Rattle.detector_degrees.proofs.Alike.{same-degrees}
 use Rattle.detector_degrees.specs.declared.Rotation.{Rotation}
 use Rattle.detector_degrees.proofs.try_degrees.Statement.{statement}
 use Rattle.detector_degrees.proofs.try_degrees.Tie as tie
 
-tried : {words marks after : List ℕ} {found : Rotation} (shape : Shape) (center : PointU) (groups : List (List PointU)) {cx cy : Float} {columns rows : List Float}
+tried : {words marks after : List ℕ} {found : Rotation} (shape : Shape) (center : PointU) (groups : List (List PointU))
+    {cx cy : Float} {columns rows : List Float}
     → cx ≡ real (center .x) → cy ≡ real (center .y) → EachPoint (offsetPast cx groups false) columns → EachPoint (offsetPast cy groups true) rows
-    → Ran (tryOffsets shape (record { x = cx; y = cy }) columns rows) words marks found after
+    → Ran (degreesFrom (lookOffset shape (record { x = cx; y = cy }) columns rows) 175 0) words marks found after
     → Ran (tryDegrees shape center groups) words marks found after
 tried shape center groups e f across down ran =
     rw (same-degrees shape center groups (rw e at across) (rw f at down)) at (rw (e, f) at ran)

@@ -1,66 +1,62 @@
--- `detector_degrees::try_offsets` meets its contract. The invariant is `Trying`: from the present degree, what is left of the definition ends as the whole does.
--- The measure is the degrees left. Assumes nothing.
+-- `detector_degrees::try_offsets` meets its contract. The invariant is `Trying`: from the present degree, what is left of the definition ends as the whole
+-- does. The measure is the degrees left. Assumes nothing.
 use Prim.Native.Nat.{ℕ, suc, _+_, _-_, _*_, _≤_, _<_}
 use mathlib.Core.List.{List}
 use mathlib.Core.Path.{_≡_, _∙_}
 use native.Mathlib.Omega.{arith}
 use borrow.Author.Needs.{needs}
-use lib.Ieee.{Float}
 use lib.ListN.{length}
-use Rattle.reads.specs.Runs.{Ran, Resumes}
+use Rattle.reads.specs.Reads.{Reads}
+use Rattle.reads.specs.RunsClauses.{Ran, Resumes}
 use Rattle.reads.specs.RunsLaws.{ran-done, resumes-start, resumes-step, resumes-end}
-use Rattle.bit_matrix.specs.declared.Shape.{Shape}
+use Rattle.bit_matrix.specs.declared.Sample.{Sample}
 use Rattle.sines.specs.Sines.{angleOf}
 use Rattle.sines.specs.declared.Angle.{Angle}
-use Rattle.rxing_result_point.specs.declared.Point.{Point}
-use Rattle.detector_degrees.specs.declared.Degree.{Degree}
-use Rattle.detector_degrees.specs.declared.Degree.the-variants.{Found, WrongColour, Outside}
-use Rattle.detector_degrees.specs.Offsets.{testOffsets, turnsFrom, tryOffsets}
+use Rattle.detector_colours.specs.declared.Degree.{Degree}
+use Rattle.detector_colours.specs.declared.Degree.the-variants.{Found, WrongColour, Outside}
+use Rattle.detector_colours.specs.Colours.{testDegree}
+use Rattle.detector_colours.specs.Looks.{lookOffset}
+use Rattle.detector_degrees.specs.Degrees.{degreesFrom}
 use Rattle.detector_degrees.specs.declared.Rotation.the-variants as rotation
 use Rattle.detector_degrees.proofs.try_offsets.Statement.{statement}
 use Rattle.detector_degrees.proofs.try_offsets.Tie as tie
 
-record Trying (words marks₀ : List ℕ) (shape : Shape) (center : Point) (columns rows : List Float) (marks : List ℕ) (i : ℕ) : Type 0 where
+record Trying (words marks₀ : List ℕ) (look : Angle → ℕ → Reads Sample) (marks : List ℕ) (i : ℕ) : Type 0 where
   sized : length marks ≡ length words
-  resumes : Resumes words
-      (turnsFrom shape center columns rows (175 - i) i) marks
-      (tryOffsets shape center columns rows) marks₀
+  resumes : Resumes words (degreesFrom look (175 - i) i) marks (degreesFrom look 175 0) marks₀
 
-begins : {words marks : List ℕ} {shape : Shape} {center : Point} {columns rows : List Float} → length marks ≡ length words
-    → Trying words marks shape center columns rows marks 0
-unfolding tryOffsets
+begins : {words marks : List ℕ} {look : Angle → ℕ → Reads Sample} → length marks ≡ length words → Trying words marks look marks 0
 begins same = record { sized = same; resumes = resumes-start }
 
-module _ {words marks₀ marks : List ℕ} {shape : Shape} {center : Point} {columns rows : List Float} {i : ℕ}
-    (trying : Trying words marks₀ shape center columns rows marks i) where
-  at-end : 175 ≤ i → Ran (tryOffsets shape center columns rows) words marks₀ rotation.None marks
-  unfolding turnsFrom
+module _ {words marks₀ marks : List ℕ} {look : Angle → ℕ → Reads Sample} {i : ℕ} (trying : Trying words marks₀ look marks i) where
+  at-end : 175 ≤ i → Ran (degreesFrom look 175 0) words marks₀ rotation.None marks
+  unfolding degreesFrom
   at-end h =
       let none : 175 - i ≡ 0 = omega arith in
       resumes-end (ran-done _) (rw none at (trying .resumes))
 
   module _ (h : i < 175) {angle : Angle} (a : angle ≡ angleOf (i * 2)) {degree : Degree} {after : List ℕ}
-      (ran : Ran (testOffsets shape center columns rows angle) words marks degree after) where
+      (ran : Ran (testDegree (look angle)) words marks degree after) where
     left : 175 - i ≡ suc (175 - (i + 1))
     left = omega arith
 
-    found : degree ≡ Found → Ran (tryOffsets shape center columns rows) words marks₀ (rotation.Found (i * 2)) after
-    unfolding turnsFrom
+    found : degree ≡ Found → Ran (degreesFrom look 175 0) words marks₀ (rotation.Found (i * 2)) after
+    unfolding degreesFrom
     found e = resumes-end (ran-done _) (resumes-step _ (rw (e, a) at ran) (rw left at (trying .resumes)))
 
-    lost : degree ≡ Outside → Ran (tryOffsets shape center columns rows) words marks₀ rotation.None after
-    unfolding turnsFrom
+    lost : degree ≡ Outside → Ran (degreesFrom look 175 0) words marks₀ rotation.None after
+    unfolding degreesFrom
     lost e = resumes-end (ran-done _) (resumes-step _ (rw (e, a) at ran) (rw left at (trying .resumes)))
 
-    onward : degree ≡ WrongColour → length after ≡ length marks → Trying words marks₀ shape center columns rows after (i + 1)
-    unfolding turnsFrom
+    onward : degree ≡ WrongColour → length after ≡ length marks → Trying words marks₀ look after (i + 1)
+    unfolding degreesFrom
     onward e kept = record {
       sized = kept ∙ trying .sized;
       resumes = resumes-step _ (rw (e, a) at ran) (rw left at (trying .resumes));
     }
 
 abbrev Inv-loop : tie.InvT-loop
-Inv-loop words marks₀ shape center columns rows table i₀ marks i = Trying words marks₀ shape center columns rows marks i
+Inv-loop words marks₀ shape center columns rows table i₀ marks i = Trying words marks₀ (lookOffset shape center columns rows) marks i
 
 abbrev μ-loop : tie.MeasureT-loop
 μ-loop words marks₀ shape center columns rows table i₀ marks i = 175 - i

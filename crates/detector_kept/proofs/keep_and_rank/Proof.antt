@@ -1,7 +1,5 @@
 -- `detector_kept::keep_and_rank` meets its contract: its callees' equations, put together. Assumes nothing.
 use Rattle.detector_kept.proofs.Composing.{small, rankable, composed}
-use mathlib.Core.Path.{refl}
-use lib.ListN.{length}
 use borrow.Author.Needs.{needs}
 use Rattle.detector_kept.proofs.keep_and_rank.Statement.{statement}
 use Rattle.detector_kept.proofs.keep_and_rank.Tie as tie

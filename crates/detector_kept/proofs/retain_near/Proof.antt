@@ -1,4 +1,5 @@
--- `detector_kept::retain_near` meets its contract. The invariant: the front holds what is retained of the records passed, and the others are unmoved. Assumes nothing.
+-- `detector_kept::retain_near` meets its contract. The invariant: the front holds what is retained of the records passed, and the others are
+-- unmoved. Assumes nothing.
 use Prim.Native.Nat.{_-_}
 use Rattle.detector_kept.proofs.Retaining.{Retaining, begins, retained-passed, taken, over}
 use borrow.Author.Needs.{needs}

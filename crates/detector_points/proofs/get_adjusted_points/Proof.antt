@@ -26,10 +26,12 @@ adjust-point-alternate-requires-3 c κs = let s = c .before .before .before .bef
 
 returns : tie.Need-returns
 returns c =
-    let s = c .before .before .before .before .before .before in
+    let second = c .before .before in
+    let first = second .before .before in
+    let s = first .before .before in
     let three : length (s .args .t1) ≡ 3 = search needs in
     three-points (s .args .boundary) (s .args .t1) three
-    (c .before .before .before .before .adjust-point-alternate .ensures) (c .before .before .adjust-point-alternate2 .ensures) (c .adjust-point-alternate3 .ensures)
+    (first .adjust-point-alternate .ensures) (second .adjust-point-alternate2 .ensures) (c .adjust-point-alternate3 .ensures)
 
 pub get-adjusted-points-spec : {M : Type 1} → statement M
 get-adjusted-points-spec =

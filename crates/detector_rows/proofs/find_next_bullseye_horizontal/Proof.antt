@@ -6,15 +6,16 @@ use native.Mathlib.Omega.{arith}
 use borrow.Author.Needs.{needs}
 use Rattle.reads.specs.Bits.{markAll, range}
 use Rattle.reads.specs.BitsLaws.{length-markAll}
-use Rattle.reads.specs.Runs.{Ran}
+use Rattle.reads.specs.RunsClauses.{Ran}
 use Rattle.reads.specs.RunsLaws.{ran-bind}
 use Rattle.bit_matrix.specs.declared.Shape.{Shape}
 use Rattle.bit_matrix.specs.Shape.{Image}
 use Rattle.bit_runs.specs.BitRuns.{rowBit, FirstBlack}
 use Rattle.reads.specs.OrderLaws.{range-again}
-use Rattle.detector_rows.specs.Rows.{nextBullseyeBy, nextBullseye}
-use Rattle.detector_rows.specs.Ring.{readTo, Swept}
-use Rattle.detector_rows.specs.declared.Bullseye.{Bullseye}
+use Rattle.detector_rows.specs.Rows.{nextBullseyeBy}
+use Rattle.detector_rows.specs.RowsClauses.{nextBullseye}
+use Rattle.detector_first_window.specs.FirstWindowClauses.{readTo, Swept}
+use Rattle.detector_window.specs.declared.Bullseye.{Bullseye}
 use Rattle.detector_rows.proofs.SkipLaws.{ran-skip}
 use Rattle.detector_rows.proofs.find_next_bullseye_horizontal.Statement.{statement}
 use Rattle.detector_rows.proofs.find_next_bullseye_horizontal.Tie as tie

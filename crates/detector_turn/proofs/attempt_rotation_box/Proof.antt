@@ -4,18 +4,20 @@ use mathlib.Core.List.{List}
 use mathlib.Core.Path.{_≡_}
 use lib.Dec.{T}
 use lib.Ieee.{Float}
-use Rattle.reads.specs.Runs.{Ran}
+use Rattle.reads.specs.RunsClauses.{Ran}
 use Rattle.bit_matrix.specs.declared.Shape.{Shape}
 use Rattle.rxing_result_point.specs.declared.PointU.{PointU}
 use Rattle.detector_boundary.specs.declared.Boundary.{Boundary}
 use Rattle.detector_boundary.specs.Boundary.{scaledBoundary}
-use Rattle.detector_boundary.specs.Size.{isScale}
-use Rattle.detector_boundary.specs.InImage.{Placed, scaled-placed}
+use Rattle.detector_size.specs.SizeClauses.{isScale}
+use Rattle.detector_boundary.specs.InImageLaws.{scaled-placed}
+use Rattle.detector_boundary.specs.BoundaryClauses.{Placed}
 use Rattle.detector_points.specs.Orientation.{orientationPoints}
 use Rattle.detector_circle.specs.declared.Circle.{Circle}
 use Rattle.detector_degrees.specs.declared.Rotation.{Rotation}
 use Rattle.detector_degrees.specs.Degrees.{tryDegrees}
-use Rattle.detector_turn.specs.Scales.{LentCircle, attemptRotationBox}
+use Rattle.detector_turn.specs.Scales.{attemptRotationBox}
+use Rattle.detector_turn.specs.ScalesClauses.{LentCircle}
 use Rattle.detector_turn.specs.ScalesLaws.{centered-of}
 use borrow.Author.Needs.{needs}
 use Rattle.detector_turn.proofs.attempt_rotation_box.Statement.{statement}

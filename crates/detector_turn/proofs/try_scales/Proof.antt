@@ -9,17 +9,19 @@ use borrow.Author.Needs.{needs}
 use lib.Dec.{T}
 use lib.Ieee.{Float}
 use lib.ListN.{length}
-use Rattle.reads.specs.Runs.{Ran, Resumes}
+use Rattle.reads.specs.RunsClauses.{Ran, Resumes}
 use Rattle.reads.specs.RunsLaws.{ran-is, ran-length, always-ran, resumes-start, resumes-step, resumes-then, resumes-else, resumes-end}
 use Rattle.bit_matrix.specs.declared.Shape.{Shape}
 use Rattle.detector_walks.specs.WalksLaws.{lent-on}
-use Rattle.detector_boundary.specs.Size.{isScale}
+use Rattle.detector_size.specs.SizeClauses.{isScale}
 use Rattle.detector_circle.specs.declared.Circle.{Circle}
 use Rattle.detector_circle.specs.Circle.{correctedCircle}
 use Rattle.detector_degrees.specs.declared.Rotation.{Rotation}
 use Rattle.detector_degrees.specs.declared.Rotation.the-variants.{Found, None}
-use Rattle.detector_turn.specs.declared.Turn.{Turn}
-use Rattle.detector_turn.specs.Scales.{LentCircle, acceptedScale, turnedBy, notTurned, lostAt, isOutside, attemptRotationBox, scalesFrom, tryScales}
+use Rattle.detector_outcome.specs.declared.Turn.{Turn}
+use Rattle.detector_turn.specs.Scales.{acceptedScale, isOutside, attemptRotationBox, scalesFrom, tryScales}
+use Rattle.detector_turn.specs.ScalesClauses.{LentCircle}
+use Rattle.detector_outcome.specs.Outcomes.{turnedBy, notTurned, lostAt}
 use Rattle.detector_turn.specs.ScalesLaws.{inside-of, radius-kept, scale-accepted}
 use Rattle.detector_turn.proofs.try_scales.Statement.{statement}
 use Rattle.detector_turn.proofs.try_scales.Tie as tie

@@ -3,14 +3,15 @@ use Prim.Native.Nat.{ℕ}
 use mathlib.Core.Bool.{true, false}
 use mathlib.Core.List.{List}
 use mathlib.Core.Path.{_≡_}
-use Rattle.reads.specs.Runs.{Ran}
+use Rattle.reads.specs.RunsClauses.{Ran}
 use Rattle.reads.specs.RunsLaws.{ran-bind, ran-done}
 use Rattle.bit_matrix.specs.declared.Shape.{Shape}
 use Rattle.sines.specs.declared.Angle.{Angle}
 use Rattle.sines.specs.Sines.{angleOf}
 use Rattle.rxing_result_point.specs.declared.Point.{Point}
 use Rattle.rxing_result_point.specs.declared.PointU.{PointU}
-use Rattle.detector_walks.specs.Walks.{walk, findEnds, findWidthAtDegree, OfDegree}
+use Rattle.detector_walks.specs.Walks.{walk, findWidthAtDegree}
+use Rattle.detector_walks.specs.WalksClauses.{OfDegree}
 use borrow.Author.Needs.{needs}
 use Rattle.detector_walks.proofs.find_width_at_degree.Statement.{statement}
 use Rattle.detector_walks.proofs.find_width_at_degree.Tie as tie
@@ -21,7 +22,7 @@ of-degree degree e = record { degree = degree; is = e }
 ended : {words m₀ m₁ m₂ : List ℕ} (shape : Shape) (center : PointU) (degree : ℕ) {angle : Angle} {left right : Point} → angle ≡ angleOf degree
     → Ran (walk shape center angle true) words m₀ left m₁ → Ran (walk shape center angle false) words m₁ right m₂
     → Ran (findWidthAtDegree shape center degree) words m₀ (record { left = left; right = right }) m₂
-unfolding findEnds
+unfolding findWidthAtDegree
 ended shape center degree e first second = rw (← e) (ran-bind _ first (ran-bind _ second (ran-done _)))
 
 angle-of-requires : tie.Need-angle-of-requires

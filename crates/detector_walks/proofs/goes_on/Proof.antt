@@ -9,7 +9,7 @@ use lib.Dec.{T, le→leb}
 use lib.IntN.{pos}
 use lib.Ieee.{binary32, add, sub, mul, toUnsigned, inFloat}
 use Rattle.ieee.specs.Sign.{abs}
-use Rattle.reads.specs.Runs.{Ran}
+use Rattle.reads.specs.RunsClauses.{Ran}
 use Rattle.bit_matrix.specs.declared.Shape.{Shape}
 use Rattle.bit_matrix.specs.Shape.{Limits, Inside}
 use Rattle.sines.specs.declared.Angle.{Angle}
@@ -31,8 +31,10 @@ module _ {shape : Shape} {x y : ℕ} (limits : Limits shape) (inside : Inside sh
   exact-row = exact y (omega (arith, limits .height-most, inside .row))
 
 looked : {words marks after : List ℕ} {white : Bool} (shape : Shape) (column row : ℕ) (center : PointU) (angle : Angle) (x : ℕ)
-    → column ≡ toUnsigned 32 (abs (add binary32 (sub binary32 (mul binary32 (angle .cos) (past (center .x) x)) (mul binary32 (angle .sin) (past (center .y) (center .y)))) (real (center .x))))
-    → row ≡ toUnsigned 32 (abs (add binary32 (add binary32 (mul binary32 (angle .sin) (past (center .x) x)) (mul binary32 (angle .cos) (past (center .y) (center .y)))) (real (center .y))))
+    → column ≡ toUnsigned 32 (abs (add binary32
+    (sub binary32 (mul binary32 (angle .cos) (past (center .x) x)) (mul binary32 (angle .sin) (past (center .y) (center .y)))) (real (center .x))))
+    → row ≡ toUnsigned 32 (abs (add binary32
+    (add binary32 (mul binary32 (angle .sin) (past (center .x) x)) (mul binary32 (angle .cos) (past (center .y) (center .y)))) (real (center .y))))
     → Ran (whitePixel shape column row) words marks white after
     → Ran (whitePoint shape (walkPoint center angle x)) words marks white after
 unfolding turned

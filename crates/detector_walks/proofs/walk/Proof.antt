@@ -11,16 +11,17 @@ use native.Mathlib.Omega.{arith}
 use borrow.Author.Needs.{needs}
 use lib.ListN.{length}
 use Rattle.reads.specs.Reads.{Reads, done}
-use Rattle.reads.specs.Runs.{Ran, Resumes}
+use Rattle.reads.specs.RunsClauses.{Ran, Resumes}
 use Rattle.reads.specs.RunsLaws.{ran-is, resumes-start, resumes-step, resumes-then, resumes-else, resumes-end}
 use Rattle.bit_matrix.specs.declared.Shape.{Shape}
 use Rattle.bit_matrix.specs.Shape.{Limits, Inside}
 use Rattle.sines.specs.declared.Angle.{Angle}
-use Rattle.sines.specs.Rules.{scaled}
+use Rattle.sines.specs.Laws.{scaled}
 use Rattle.rxing_result_point.specs.declared.Point.{Point}
 use Rattle.rxing_result_point.specs.declared.PointU.{PointU}
-use Rattle.detector_walks.specs.Walks.{walkPoint, whitePoint, leftFrom, rightFrom, firstColumn, walk, stepsRight, OfDegree}
-use Rattle.detector_walks.specs.StepsLaws.{steps-some, steps-few}
+use Rattle.detector_walks.specs.Walks.{walkPoint, whitePoint, leftFrom, rightFrom, firstColumn, walk}
+use Rattle.detector_walks.specs.WalksClauses.{OfDegree}
+use Rattle.detector_walks.specs.StepsLaws.{stepsRight, steps-some, steps-few}
 use Rattle.detector_walks.specs.WalksLaws.{before-end}
 use Rattle.detector_walks.proofs.walk.Statement.{statement}
 use Rattle.detector_walks.proofs.walk.Tie as tie
@@ -29,11 +30,11 @@ module _ (words : List ℕ) (shape : Shape) (center : PointU) (angle : Angle) wh
   -- what is left in column x, and how many steps at most
   abbrev rest : Bool → ℕ → Reads Point
   rest true x = leftFrom shape center angle x
-  rest false x = rightFrom shape center angle (suc (center .x + stepsRight shape angle - x)) x
+  rest false x = rightFrom shape center angle (suc (center .x + 2 ^ 20 - x)) x
 
   abbrev steps : Bool → ℕ → ℕ
   steps true x = x
-  steps false x = center .x + stepsRight shape angle - x
+  steps false x = center .x + 2 ^ 20 - x
 
   record Walking (marks₀ : List ℕ) (left : Bool) (marks : List ℕ) (x : ℕ) : Type 0 where
     sized : length marks ≡ length words
@@ -49,7 +50,7 @@ module _ (words : List ℕ) (shape : Shape) (center : PointU) (angle : Angle) wh
       record { sized = same; low = low; near = λ f. absurd (true≢false f); resumes = rw e resumes-start }
   begins false {x} limits inside same e =
       let some = steps-some shape (scaled (angle .sin)) in
-      let all : suc (center .x + stepsRight shape angle - (center .x + 1)) ≡ stepsRight shape angle = omega arith in
+      let all : suc (center .x + 2 ^ 20 - (center .x + 1)) ≡ 2 ^ 20 = omega arith in
       let low : x ≤ 2 ^ 24 = omega (arith, limits .width-most, inside .column, e) in
       record { sized = same; low = low; near = λ f. rw e (omega (arith, some)); resumes = rw (e, all) resumes-start }
 
@@ -74,13 +75,13 @@ module _ (words : List ℕ) (shape : Shape) (center : PointU) (angle : Angle) wh
       before : x < center .x + stepsRight shape angle
       before = before-end limits center inside of words x (walking .near refl) (ran .result) e
 
-      nearer : center .x + stepsRight shape angle - (x + 1) < center .x + stepsRight shape angle - x
-      nearer = omega (arith, before)
+      nearer : center .x + 2 ^ 20 - (x + 1) < center .x + 2 ^ 20 - x
+      nearer = omega (arith, before, steps-few of limits)
 
       past : length after ≡ length marks → Walking marks₀ false after (x + 1)
       unfolding rightFrom
       past kept =
-          let fuel : center .x + stepsRight shape angle - x ≡ suc (center .x + stepsRight shape angle - (x + 1)) = omega (arith, before) in
+          let fuel : center .x + 2 ^ 20 - x ≡ suc (center .x + 2 ^ 20 - (x + 1)) = omega (arith, before, steps-few of limits) in
           record {
             sized = kept ∙ walking .sized;
             low = omega (arith, before, steps-few of limits, limits .width-most, inside .column);
@@ -104,7 +105,8 @@ module _ (words : List ℕ) (shape : Shape) (center : PointU) (angle : Angle) wh
     stops-at-0 true l walking is none = ends-at-0 walking is none
     stops-at-0 false l walking is none = absurd (true≢false (sym l))
 
-    onward-left : (left : Bool) → left ≡ true → Walking marks₀ left marks x → x ≢ 0 → white ≡ true → length after ≡ length marks → Walking marks₀ left after (x - 1)
+    onward-left : (left : Bool) → left ≡ true → Walking marks₀ left marks x → x ≢ 0 → white ≡ true → length after ≡ length marks
+        → Walking marks₀ left after (x - 1)
     onward-left true l walking some e kept = record {
       sized = kept ∙ walking .sized;
       low = omega (arith, walking .low);

@@ -1,21 +1,17 @@
--- `find::put_lines` meets its contract: the parts that are lent for the words and the marks have the image's length, and no more records are kept than 400. Assumes nothing.
-use Prim.Native.Nat.{ℕ, _≤_}
+-- `find::put_lines` meets its contract: the parts that are lent for the words and the marks have the image's length, and no more records are
+-- kept than 400. Assumes nothing.
+use Prim.Native.Nat.{ℕ}
 use mathlib.Core.List.{List}
-use mathlib.Core.Path.{_≡_, sym, subst⁻¹}
-use lib.ListN.{length, take, replicate, length-replicate}
-use lib.Seq.{length-take-le}
+use lib.ListN.{replicate}
 use borrow.Author.Needs.{needs}
 use Rattle.crop.specs.CropLaws.{checked-rows}
+use Rattle.detector.specs.DetectorLaws.{zeros-lent}
 use Rattle.find.specs.FindLaws.{kept-few, take-zeros, puts-printed}
 use Rattle.find.proofs.put_lines.Statement.{statement}
 use Rattle.find.proofs.put_lines.Tie as tie
 
 zeros : List ℕ
 zeros = replicate 8000 0
-
-part : (n : ℕ) → n ≤ 8000 → n ≡ length (take n zeros)
-unfolding zeros
-part n h = sym (length-take-le n zeros (subst⁻¹ (λ (m : ℕ). n ≤ m) (length-replicate {A = ℕ} 8000 0) h))
 
 check-file-requires : tie.Need-check-file-requires
 check-file-requires c κs = search needs
@@ -28,7 +24,7 @@ array-borrow-prefix-words c = c .lent-words .ensures _ (c .before .check-file .e
 
 slice-aggregate-search-checked : tie.Need-slice-aggregate-search-checked
 unfolding zeros
-slice-aggregate-search-checked c = let lent = c .before in part _ (lent .lent-words .ensures _ (lent .before .check-file .ensures) .1)
+slice-aggregate-search-checked c = let lent = c .before in zeros-lent 8000 _ (lent .lent-words .ensures _ (lent .before .check-file .ensures) .1)
 
 slice-aggregate-search-checked-2 : tie.Need-slice-aggregate-search-checked-2
 slice-aggregate-search-checked-2 c = search needs
@@ -38,7 +34,8 @@ array-borrow-prefix-marks c = let lent = c .before .before in lent .lent-words .
 
 slice-aggregate-search-checked-3 : tie.Need-slice-aggregate-search-checked-3
 unfolding zeros
-slice-aggregate-search-checked-3 c = let lent = c .before .before .before in part _ (lent .lent-words .ensures _ (lent .before .check-file .ensures) .1)
+slice-aggregate-search-checked-3 c = let lent = c .before .before .before in zeros-lent 8000 _
+    (lent .lent-words .ensures _ (lent .before .check-file .ensures) .1)
 
 search-checked-requires : tie.Need-search-checked-requires
 search-checked-requires c κs = search needs

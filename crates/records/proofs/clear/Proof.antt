@@ -1,7 +1,7 @@
 -- `records::clear` meets its contract: a copy of zeros. Assumes nothing.
 use Prim.Native.Nat.{_-_}
 use lib.ListN.{replicate, length-replicate, getD-replicate}
-use Rattle.records.specs.Copies.{Copied, begins, onward, over}
+use Rattle.records.specs.CopiesLaws.{Copied, begins, onward, over}
 use borrow.Author.Needs.{needs}
 use Rattle.records.proofs.clear.Statement.{statement}
 use Rattle.records.proofs.clear.Tie as tie

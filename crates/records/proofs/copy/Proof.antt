@@ -2,7 +2,8 @@
 use Prim.Native.Nat.{ℕ}
 use mathlib.Core.Path.{_≡_, sym, ap, _∙_}
 use mathlib.Core.List.{List}
-use Rattle.records.specs.Records.{Record, get, put}
+use Rattle.records.specs.Records.{Record}
+use Rattle.records.specs.RecordsClauses.{get, put}
 use Rattle.records.specs.RecordsLaws.{put-same}
 use borrow.Author.Needs.{needs}
 use Rattle.records.proofs.copy.Statement.{statement}

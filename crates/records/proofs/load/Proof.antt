@@ -4,9 +4,9 @@ use native.Mathlib.Nat.{zero-add}
 use mathlib.Core.Path.{sym, _∙_}
 use mathlib.Core.List.{append-nil}
 use lib.ListN.{replicate}
-use Rattle.records.specs.Records.{get}
+use Rattle.records.specs.RecordsClauses.{get}
 use Rattle.records.specs.RecordsLaws.{length-get, get-word}
-use Rattle.records.specs.Copies.{Copied, begins, onward, over}
+use Rattle.records.specs.CopiesLaws.{Copied, begins, onward, over}
 use borrow.Author.Needs.{needs}
 use Rattle.records.proofs.load.Statement.{statement}
 use Rattle.records.proofs.load.Tie as tie
@@ -47,7 +47,8 @@ loop-less c = search needs
 loop-again : tie.Need-loop-again Inv-loop μ-loop
 loop-again c =
     let k = c .before .before .loop .k in
-    onward (c .before .before .loop .inv) (search needs) (sym (zero-add k)) (sym (get-word (c .before .before .before .args .records .now) (c .before .before .before .args .i) k (search needs)))
+    onward (c .before .before .loop .inv) (search needs) (sym (zero-add k))
+    (sym (get-word (c .before .before .before .args .records .now) (c .before .before .before .args .i) k (search needs)))
 
 returns : tie.Need-returns Inv-loop μ-loop
 returns c = over (c .before .loop .inv) (search needs) ∙ append-nil _

@@ -1,7 +1,7 @@
 -- `records::store` meets its contract: a copy of 40 words. Assumes nothing.
 use Prim.Native.Nat.{_*_, _-_}
-use Rattle.records.specs.Records.{put}
-use Rattle.records.specs.Copies.{Copied, begins, onward, over}
+use Rattle.records.specs.RecordsClauses.{put}
+use Rattle.records.specs.CopiesLaws.{Copied, begins, onward, over}
 use borrow.Author.Needs.{needs}
 use Rattle.records.proofs.store.Statement.{statement}
 use Rattle.records.proofs.store.Tie as tie

@@ -2,7 +2,8 @@
 use Prim.Native.Nat.{ℕ}
 use mathlib.Core.Path.{_≡_, ap, ap₂, _∙_}
 use mathlib.Core.List.{List}
-use Rattle.records.specs.Records.{Record, get, put}
+use Rattle.records.specs.Records.{Record}
+use Rattle.records.specs.RecordsClauses.{get, put}
 use borrow.Author.Needs.{needs}
 use Rattle.records.proofs.swap.Statement.{statement}
 use Rattle.records.proofs.swap.Tie as tie

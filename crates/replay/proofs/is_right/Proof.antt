@@ -1,19 +1,15 @@
 -- `replay::is_right` is safe: the parts that are lent have the lengths that the vector says. Assumes nothing.
 use Prim.Native.Nat.{ℕ, _≤_}
 use native.Mathlib.Omega.{arith}
-use mathlib.Core.Path.{_≡_, sym, subst, subst⁻¹}
-use lib.ListN.{length, take, replicate, length-replicate}
-use lib.Seq.{length-take-le}
+use mathlib.Core.Path.{subst}
+use lib.ListN.{length, take, replicate}
 use borrow.Author.Needs.{needs}
+use Rattle.detector.specs.DetectorLaws.{zeros-lent}
 use Rattle.replay.proofs.is_right.Statement.{statement}
 use Rattle.replay.proofs.is_right.Tie as tie
 
--- the length of a part of m zeros
-part : (m n : ℕ) → n ≤ m → n ≡ length {A = ℕ} (take n (replicate m 0))
-part m n h = sym (length-take-le n (replicate m 0) (subst⁻¹ (λ (k : ℕ). n ≤ k) (length-replicate {A = ℕ} m 0) h))
-
 few : (m n : ℕ) → n ≤ m → length {A = ℕ} (take n (replicate m 0)) ≤ m
-few m n h = subst (λ (k : ℕ). k ≤ m) (part m n h) h
+few m n h = subst (λ (k : ℕ). k ≤ m) (zeros-lent m n h) h
 
 cast-words-len : tie.Need-cast-words-len
 cast-words-len c = search needs
@@ -37,22 +33,24 @@ array-borrow-prefix-words : tie.Need-array-borrow-prefix-words
 array-borrow-prefix-words c = search needs
 
 slice-aggregate-is-right-in : tie.Need-slice-aggregate-is-right-in
-slice-aggregate-is-right-in c = part 8000 _ (omega arith)
+slice-aggregate-is-right-in c = zeros-lent 8000 _ (omega arith)
 
 array-borrow-prefix-records : tie.Need-array-borrow-prefix-records
 array-borrow-prefix-records c = search needs
 
 slice-aggregate-is-right-in-2 : tie.Need-slice-aggregate-is-right-in-2
-slice-aggregate-is-right-in-2 c = part 80000 _ (omega arith)
+slice-aggregate-is-right-in-2 c = zeros-lent 80000 _ (omega arith)
 
 array-borrow-prefix-marks : tie.Need-array-borrow-prefix-marks
 array-borrow-prefix-marks c = search needs
 
 slice-aggregate-is-right-in-3 : tie.Need-slice-aggregate-is-right-in-3
-slice-aggregate-is-right-in-3 c = part 8000 _ (omega arith)
+slice-aggregate-is-right-in-3 c = zeros-lent 8000 _ (omega arith)
 
 is-right-in-requires : tie.Need-is-right-in-requires
-is-right-in-requires c κs = (search needs, few 8000 (c .before .before .before .before .before .before .before .before .before .before .args .vector .words) (omega arith))
+is-right-in-requires c κs =
+    let lent = c .before .before .before .before .before in
+    (search needs, few 8000 (lent .before .before .before .before .before .args .vector .words) (omega arith))
 
 returns-4 : tie.Need-returns-4
 returns-4 c = search needs

@@ -1,7 +1,9 @@
 -- `text::put` meets its contract: the piece lies over the start of what was lent from `at` on. Assumes nothing.
+use Prim.Native.Nat.{_-_}
 use native.Mathlib.Omega.{arith}
+use lib.ListN.{length}
 use borrow.Author.Needs.{needs}
-use Rattle.text.specs.TextLaws.{puts-copied}
+use Rattle.text.proofs.Copied.{past-lent, puts-copied}
 use Rattle.text.proofs.put.Statement.{statement}
 use Rattle.text.proofs.put.Tie as tie
 
@@ -25,7 +27,10 @@ same-length c = search needs
 
 returns : tie.Need-returns
 returns c =
-    puts-copied _ _ _ _ _ (omega arith) (c .before .before .copy .ensures .0) (c .before .before .copy .ensures .1) (search needs)
+    let copied = c .before .before .copy .ensures in
+    let args = c .before .before .before .before .before .before .args in
+    let stays = past-lent (args .at) (length (args .buf .now) - args .at) (length (args .piece .now)) (args .buf .now) (omega arith) (omega arith) in
+    puts-copied _ _ _ _ _ (omega arith) (copied .0) (copied .1) stays (search needs)
 
 pub put-spec : {M : Type 1} → statement M
 put-spec =

@@ -1,7 +1,8 @@
 -- `text::put_decimal` meets its contract: the library's fewest digits are the definition's. Assumes nothing.
 use native.Mathlib.Omega.{arith}
 use borrow.Author.Needs.{needs}
-use Rattle.text.specs.TextLaws.{decimal-text, decimal-places, puts-as}
+use Rattle.text.specs.TextLaws.{puts-as}
+use Rattle.text.proofs.Numbers.{decimal-text, decimal-places}
 use Rattle.text.proofs.put_decimal.Statement.{statement}
 use Rattle.text.proofs.put_decimal.Tie as tie
 

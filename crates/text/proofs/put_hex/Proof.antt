@@ -1,7 +1,8 @@
 -- `text::put_hex` meets its contract: the library's fewest digits, and no fewer than eight, are eight. Assumes nothing.
 use native.Mathlib.Omega.{arith}
 use borrow.Author.Needs.{needs}
-use Rattle.text.specs.TextLaws.{hex-text, hex-places, puts-as}
+use Rattle.text.specs.TextLaws.{puts-as}
+use Rattle.text.proofs.Numbers.{hex-text, hex-places}
 use Rattle.text.proofs.put_hex.Statement.{statement}
 use Rattle.text.proofs.put_hex.Tie as tie
 

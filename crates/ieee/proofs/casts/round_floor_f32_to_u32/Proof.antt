@@ -1,4 +1,5 @@
--- `ieee::casts::round_floor_f32_to_u32` meets its contract: 2x is exact at the wider format, its whole part, halved up, is x rounded, and a cast sees no difference between that and its floor.
+-- `ieee::casts::round_floor_f32_to_u32` meets its contract: 2x is exact at the wider format, its whole part, halved up, is x rounded, and a cast
+-- sees no difference between that and its floor.
 -- Assumes nothing.
 use native.Mathlib.Omega.{arith}
 use mathlib.Core.Path.{_≡_, sym, subst, _∙_}
@@ -24,12 +25,14 @@ cast-result : tie.Need-cast-result
 cast-result c = search needs
 
 -- what the two calls ensure
-value : (c : tie.After-saturating-f64-to-u64) → halved (c .saturating-f64-to-u64 .result) ≡ toUnsigned 32 (floor binary32 (roundTiesToAway binary32 (c .before .before .args .x)))
+value : (c : tie.After-saturating-f64-to-u64)
+    → halved (c .saturating-f64-to-u64 .result) ≡ toUnsigned 32 (floor binary32 (roundTiesToAway binary32 (c .before .before .args .x)))
 unfolding ofBits
 value c =
     let start = c .before .before in
     let x = start .args .x in
-    rounded (c .saturating-f64-to-u64 .result) x (c .before .f32-to-f64-with-nan .result) (subst T (sym (start .good .0 .1)) tt) (c .before .f32-to-f64-with-nan .ensures) (c .saturating-f64-to-u64 .ensures)
+    rounded (c .saturating-f64-to-u64 .result) x (c .before .f32-to-f64-with-nan .result) (subst T (sym (start .good .0 .1)) tt)
+    (c .before .f32-to-f64-with-nan .ensures) (c .saturating-f64-to-u64 .ensures)
     ∙ sym (floor-cast 32 binary32 (roundTiesToAway binary32 x) (ties-fits binary32 x))
 
 returns : tie.Need-returns

@@ -8,8 +8,20 @@ use lib.Ieee.{ofBits, neg, toUnsigned}
 use mir.Syntax.{w32}
 use mir.Val.{ofZ, toZ, SFits}
 use mir.ValLaws.{toZ-ofZ, toZ-pos}
-use Rattle.ieee.proofs.Saturating.{negated, negated-fits, unsigned-all, unsigned-lt, unsigned-narrower, lt-wider, one-above, above-minus-one}
-use Rattle.ieee.proofs.Saturating.{signed-above, signed-below, signed-least, signed-small}
+use Rattle.ieee.proofs.Saturating.{
+  negated,
+  negated-fits,
+  unsigned-all,
+  unsigned-lt,
+  unsigned-narrower,
+  lt-wider,
+  one-above,
+  above-minus-one,
+  signed-above,
+  signed-below,
+  signed-least,
+  signed-small,
+}
 use Rattle.ieee.proofs.casts.saturating_f32_to_i32.Statement.{statement}
 use Rattle.ieee.proofs.casts.saturating_f32_to_i32.Tie as tie
 

@@ -6,7 +6,8 @@ use Rattle.replay.proofs.lent.same_words.Statement.{statement}
 use Rattle.replay.proofs.lent.same_words.Tie as tie
 
 abbrev Inv-loop : tie.InvT-loop
-Inv-loop words file accepted width row-bytes p₀ start₀ column₀ i₀ p start column i = (i ≤ length words) × (width ≤ 4095) × (row-bytes ≤ 512) × (column ≤ 4096) × (start ≤ 4 + 512 * i)
+Inv-loop words file accepted width row-bytes p₀ start₀ column₀ i₀ p start column i =
+    (i ≤ length words) × (width ≤ 4095) × (row-bytes ≤ 512) × (column ≤ 4096) × (start ≤ 4 + 512 * i)
 
 abbrev μ-loop : tie.MeasureT-loop
 μ-loop words file accepted width row-bytes p₀ start₀ column₀ i₀ p start column i = length words - i

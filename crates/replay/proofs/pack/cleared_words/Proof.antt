@@ -1,6 +1,6 @@
 -- `replay::pack::cleared_words` meets its contract. Assumes nothing.
 use mathlib.Core.Path.{sym, _∙_}
-use Rattle.crop.specs.Chain.{chain-here, chain-next}
+use Rattle.crop_sizes.specs.ChainLaws.{chain-here, chain-next}
 use Rattle.replay.specs.Pack.{clearedWords}
 use borrow.Author.Needs.{needs}
 use Rattle.replay.proofs.pack.cleared_words.Statement.{statement}

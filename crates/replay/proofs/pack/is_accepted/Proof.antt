@@ -1,5 +1,5 @@
 -- `replay::pack::is_accepted` meets its contract. Assumes nothing.
-use Rattle.crop.specs.Chain.{chain}
+use Rattle.crop_sizes.specs.ChainLaws.{chain}
 use Rattle.replay.proofs.pack.is_accepted.Statement.{statement}
 use Rattle.replay.proofs.pack.is_accepted.Tie as tie
 

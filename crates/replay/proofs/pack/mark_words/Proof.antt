@@ -1,6 +1,6 @@
 -- `replay::pack::mark_words` meets its contract. Assumes nothing.
 use mathlib.Core.Path.{sym, _∙_}
-use Rattle.crop.specs.Chain.{chain-here, chain-next}
+use Rattle.crop_sizes.specs.ChainLaws.{chain-here, chain-next}
 use Rattle.replay.specs.Pack.{markWords}
 use borrow.Author.Needs.{needs}
 use Rattle.replay.proofs.pack.mark_words.Statement.{statement}

@@ -1,7 +1,7 @@
 -- `step_exports::boxes::step_find_width_at_degree` meets its contract. Assumes nothing.
 use borrow.Author.Needs.{needs}
 use mathlib.Core.Path.{refl}
-use Rattle.crop.specs.CropLaws.{rows-of}
+use Rattle.crop_sizes.specs.SizesLaws.{rows-of}
 use Rattle.step_exports.proofs.Guarding.{refuse-test, lent-as, lent-passed, lent-passed-as, answer}
 use Rattle.step_exports.proofs.Running.{walked-ran}
 use Rattle.step_exports.proofs.boxes.step_find_width_at_degree.Statement.{statement}

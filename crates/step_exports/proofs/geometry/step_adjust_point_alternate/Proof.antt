@@ -1,9 +1,19 @@
 -- `step_exports::geometry::step_adjust_point_alternate` meets its contract. Assumes nothing.
 use borrow.Author.Needs.{needs}
 use mathlib.Core.Path.{refl}
-use Rattle.crop.specs.CropLaws.{rows-of}
-use Rattle.step_exports.proofs.Guarding.{refuse-test, passed-test, centered-as, centered-passed-as, scale-of, scale-passed-as, cell-passed}
-use Rattle.step_exports.proofs.Guarding.{answer, adjusted-words, placed-of}
+use Rattle.crop_sizes.specs.SizesLaws.{rows-of}
+use Rattle.step_exports.proofs.Guarding.{
+  refuse-test,
+  passed-test,
+  centered-as,
+  centered-passed-as,
+  scale-of,
+  scale-passed-as,
+  cell-passed,
+  answer,
+  adjusted-words,
+  placed-of,
+}
 use Rattle.step_exports.proofs.geometry.step_adjust_point_alternate.Statement.{statement}
 use Rattle.step_exports.proofs.geometry.step_adjust_point_alternate.Tie as tie
 

@@ -2,8 +2,18 @@
 use borrow.Author.Needs.{needs}
 use mathlib.Core.Path.{refl}
 use native.Mathlib.Omega.{arith}
-use Rattle.crop.specs.CropLaws.{rows-of}
-use Rattle.step_exports.proofs.Guarding.{refuse, refuse-test, passed-test, centered-as, centered-passed-as, scale-of, scale-passed-as, answer, scaled-words}
+use Rattle.crop_sizes.specs.SizesLaws.{rows-of}
+use Rattle.step_exports.proofs.Guarding.{
+  refuse,
+  refuse-test,
+  passed-test,
+  centered-as,
+  centered-passed-as,
+  scale-of,
+  scale-passed-as,
+  answer,
+  scaled-words,
+}
 use Rattle.step_exports.proofs.geometry.step_scaled_boundary.Statement.{statement}
 use Rattle.step_exports.proofs.geometry.step_scaled_boundary.Tie as tie
 

@@ -1,7 +1,7 @@
 -- `step_exports::sweep::step_count_row` meets its contract. Assumes nothing.
 use borrow.Author.Needs.{needs}
 use mathlib.Core.Path.{refl}
-use Rattle.crop.specs.CropLaws.{rows-of}
+use Rattle.crop_sizes.specs.SizesLaws.{rows-of}
 use Rattle.step_exports.proofs.Guarding.{refuse-test, passed-test, image-as, image-passed-as, answer}
 use Rattle.step_exports.proofs.Running.{counted}
 use Rattle.step_exports.proofs.sweep.step_count_row.Statement.{statement}

@@ -2,7 +2,7 @@
 use borrow.Author.Needs.{needs}
 use mathlib.Core.Path.{refl}
 use native.Mathlib.Omega.{arith}
-use Rattle.crop.specs.CropLaws.{rows-of}
+use Rattle.crop_sizes.specs.SizesLaws.{rows-of}
 use Rattle.step_exports.proofs.Guarding.{refuse, refuse-test, passed-test, image-as, image-passed-as, answer}
 use Rattle.step_exports.proofs.Running.{room, listed}
 use Rattle.step_exports.proofs.sweep.step_find_concentric_circles.Statement.{statement}

@@ -1,2 +1,0 @@
-pub mod AreaLaws
-pub mod AreaWordsLaws

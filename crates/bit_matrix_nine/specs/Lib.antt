@@ -1,0 +1,2 @@
+pub mod AreaWords
+pub mod AreaWordsLaws

@@ -1,0 +1,4 @@
+pub mod Below
+pub mod Padding
+pub mod AnyLaws
+pub mod NumberLaws

@@ -1,0 +1,2 @@
+-- `Corners` has the definitions.
+pub mod Corners

@@ -1,0 +1,2 @@
+-- `Outcomes` has the definitions.
+pub mod Outcomes

@@ -1,0 +1,13 @@
+-- What the clauses of functions name. Assumes nothing.
+use mathlib.Core.Bool.{Bool, true, _&&_}
+use mathlib.Core.List.{List, [], _∷_}
+use lib.Dec.{ltb}
+use Rattle.rxing_result_point.specs.declared.PointU.{PointU}
+
+-- whether a point is a cell of the symbol, of 30 columns and 33 rows; and whether all of a list are
+abbrev pub isCell : PointU → Bool
+isCell p = ltb (p .x) 30 && ltb (p .y) 33
+
+abbrev pub areCells : List PointU → Bool
+areCells [] = true
+areCells (p ∷ ps) = isCell p && areCells ps

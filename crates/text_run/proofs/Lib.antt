@@ -1,0 +1,2 @@
+mod Listed
+mod Fitting
