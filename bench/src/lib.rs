@@ -1,4 +1,6 @@
-//! The proved steps under safe names. A step that refuses its input answers none, and has changed nothing.
+//! The proved steps under safe names. A step that refuses its input answers none, and has changed nothing. And the clock.
+
+pub mod clock;
 
 use oracle::harness::steps::Image;
 

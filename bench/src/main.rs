@@ -8,9 +8,8 @@
 //!
 //! In each round all run once, one after the other. A time is the median over the rounds, a ratio the median of the
 //! rounds' ratios, its spread what nine of ten rounds lie between. Before the clock starts the results are compared: the
-//! report, every word of the records, every mark.
+//! report, every word of the records, every mark; and of a phase or step what the timed function itself gives.
 
-mod clock;
 mod phases;
 mod sets;
 mod source;
@@ -19,6 +18,7 @@ mod whole;
 
 use std::process::ExitCode;
 
+use bench::clock;
 use sets::Set;
 
 const HELP: &str = "\

@@ -2,6 +2,7 @@
 
 use std::hint::black_box;
 
+use crops::places::OUTCOME;
 use oracle::generate::Crop;
 use oracle::harness::steps::{self, Candidate};
 use oracle::{MOST_CANDIDATES, RECORD_WORDS, crop};
@@ -10,6 +11,7 @@ use crate::clock;
 use crate::sets::{Set, image};
 use crate::source::{Logged, Plain, Source, prepared};
 use crate::steps::records;
+use crate::whole;
 
 const HEADER: &str = "\
 | Crops | Unpack | Sweep | Kept | Turn |
@@ -51,10 +53,44 @@ impl<'a> Case<'a> {
         };
         Self {
             crop,
-            blank: crop::pack(&vec![0; crop.words.len()], crop.width, crop.height),
+            blank: crops::pack(&vec![0; crop.words.len()], crop.width, crop.height),
             candidates,
             kept,
         }
+    }
+}
+
+/// Stops unless the product's phases come to what the functions of the source that are timed come to.
+fn agreed<S: Source>(case: &Case) {
+    let (source, picture) = (S::new(case.crop), image(case.crop));
+    let most = capacity(case.crop);
+    let mut marks = vec![0; case.crop.words.len()];
+    let mut words = vec![0; case.crop.capacity_words];
+    let found = bench::find_concentric_circles(picture, &mut marks, &mut words, most as u32);
+    assert_eq!(found, Some(source.sweep(most)), "candidates");
+    let found = case.candidates.len();
+    if found > 0 {
+        let mut words = records(&case.candidates, found * RECORD_WORDS);
+        let kept = bench::keep_and_rank(&mut words, found as u32);
+        let theirs = source.ranking(&case.candidates)();
+        assert_eq!(kept, Some(theirs), "kept candidates");
+    }
+    let mut fields = [0; RECORD_WORDS];
+    for &(centre, radius) in &case.kept {
+        bench::box_symbol(picture, &mut marks, &mut fields, centre, radius).expect(FITS);
+        let outcome = source.box_symbol(centre, radius);
+        assert_eq!(fields[OUTCOME], outcome, "the outcome of a box");
+    }
+}
+
+/// Stops unless both unpack a case's files to the same words: the crop's own file, and the blank one that is timed.
+fn unpacked_alike(case: &Case) {
+    for file in [&case.crop.file(), &case.blank] {
+        let mut ours = vec![!0; case.crop.words.len()];
+        let mut theirs = ours.clone();
+        assert_eq!(bullseye::unpack(file, &mut ours), crop::check_file(file));
+        crops::unpack(file, &mut theirs);
+        assert_eq!(ours, theirs, "unpacked words");
     }
 }
 
@@ -96,7 +132,7 @@ fn unpack(cases: &[Case], crops: usize) -> String {
         &mut || {
             clock::time((), |()| {
                 for (case, b) in cases.iter().zip(&mut lent) {
-                    host::search_file(&case.blank, &mut b.words, &mut b.records, &mut b.marks);
+                    bullseye::search_file(&case.blank, &mut b.words, &mut b.records, &mut b.marks);
                 }
             })
         },
@@ -104,7 +140,7 @@ fn unpack(cases: &[Case], crops: usize) -> String {
             clock::time((), |()| {
                 for (case, b) in cases.iter().zip(&mut other) {
                     let (width, height) = (case.crop.width, case.crop.height);
-                    host::search_words(&b.words, width, height, &mut b.records, &mut b.marks);
+                    bullseye::search_words(&b.words, width, height, &mut b.records, &mut b.marks);
                 }
             })
         },
@@ -112,7 +148,7 @@ fn unpack(cases: &[Case], crops: usize) -> String {
             clock::time((), |()| {
                 for (case, b) in cases.iter().zip(&mut unpacked) {
                     assert_eq!(crop::check_file(&case.blank), 0);
-                    crop::unpack(&case.blank, &mut b.words);
+                    crops::unpack(&case.blank, &mut b.words);
                 }
             })
         },
@@ -229,6 +265,12 @@ fn cell_of(phase: fn(&[Case], usize) -> String, cases: &[Case], crops: usize) ->
 fn line(set: &Set) -> String {
     let crops = set.crops.len();
     let mut cases: Vec<_> = set.crops.iter().map(Case::of).collect();
+    for case in &cases {
+        whole::agreed(case.crop);
+        agreed::<Logged>(case);
+        agreed::<Plain>(case);
+        unpacked_alike(case);
+    }
     let (unpack, sweep) = (unpack(&cases, crops), sweep(&cases, crops));
     cases.retain(|case| !case.candidates.is_empty());
     let kept = cell_of(kept, &cases, crops);

@@ -1,8 +1,9 @@
 //! The sets of crops that are timed.
 
+use crops::RECORD_WORDS;
 use oracle::generate::{self, Crop, Random};
 use oracle::harness::steps::Image;
-use oracle::{RECORD_WORDS, crop, vectors};
+use oracle::vectors;
 
 /// Records of a buffer, where a set needs no other number.
 const RECORDS: usize = 100;
@@ -45,10 +46,10 @@ pub fn image(crop: &Crop) -> Image<'_> {
 
 /// An image, pixel by pixel.
 pub fn painted(width: u32, height: u32, black: impl Fn(u32, u32) -> bool) -> Crop {
-    let mut words = vec![0; crop::image_words(width, height)];
+    let mut words = vec![0; crops::image_words(width, height)];
     for y in 0..height {
         for x in (0..width).filter(|x| black(*x, y)) {
-            crop::set_pixel(&mut words, width, x, y);
+            crops::set_pixel(&mut words, width, x, y);
         }
     }
     Crop {
@@ -73,9 +74,9 @@ pub fn noise(width: u32, height: u32) -> Crop {
 pub fn zint() -> Vec<Crop> {
     let pack = include_bytes!("../../crates/replay/stdin");
     let image = |vector: vectors::Vector| {
-        let (width, height) = crop::dimensions(&vector.file).expect("a whole file");
+        let (width, height) = crops::dimensions(&vector.file).expect("a whole file");
         let mut unpacked = painted(width, height, |_, _| false);
-        crop::unpack(&vector.file, &mut unpacked.words);
+        crops::unpack(&vector.file, &mut unpacked.words);
         unpacked
     };
     (vectors::read(pack).into_iter())

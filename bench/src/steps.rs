@@ -1,5 +1,6 @@
 //! The proved steps one by one against the source's with its log; neither clears its marks in the timed part.
 
+use crops::places::OUTCOME;
 use oracle::generate::{self, Crop, Random};
 use oracle::harness::steps::{self, Candidate, Image, Prepared, Ranking};
 use oracle::{MOST_CANDIDATES, RECORD_WORDS};
@@ -172,7 +173,7 @@ fn time_box(text: &str, name: &str, outcome: u32) {
         (named.iter().zip(&mut marks))
             .map(|((crop, (centre, radius)), marks)| {
                 bench::box_symbol(image(crop), marks, &mut fields, *centre, *radius).expect(FITS);
-                fields[26]
+                fields[OUTCOME]
             })
             .sum()
     };

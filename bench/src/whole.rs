@@ -24,23 +24,6 @@ struct Left {
     marks: Vec<u64>,
 }
 
-/// A search of words by the product, with the report in the judge's type.
-fn search_words(
-    words: &[u64],
-    width: u32,
-    height: u32,
-    records: &mut [u32],
-    marks: &mut [u64],
-) -> Report {
-    let report = host::search_words(words, width, height, records, marks);
-    Report {
-        answer: report.answer,
-        found: report.found,
-        kept: report.kept,
-        marked: report.marked,
-    }
-}
-
 /// What one of the searches leaves of a crop, in buffers that were not clear.
 fn left(crop: &Crop, search: oracle::SearchWords) -> Left {
     let mut records = vec![!0; crop.capacity_words];
@@ -54,20 +37,23 @@ fn left(crop: &Crop, search: oracle::SearchWords) -> Left {
     }
 }
 
-/// Stops unless all three searches agree on a crop; the one without a log has no marks. Gives their report.
-fn agreed(crop: &Crop) -> Report {
-    let ours = left(crop, search_words);
+/// What the function of the source that is timed leaves of a crop: its report and its records.
+fn timed<S: Source>(crop: &Crop) -> (Report, Vec<u32>) {
+    let mut records = vec![!0; crop.capacity_words];
+    let report = S::new(crop).search(&mut records);
+    (report, records)
+}
+
+/// Stops unless all searches agree on a crop; the one without a log has no marks. Gives their report.
+pub fn agreed(crop: &Crop) -> Report {
+    let ours = left(crop, bullseye::search_words);
     assert_eq!(ours, left(crop, harness::search_words));
-    let plain = left(crop, harness::plain::search_words);
+    let (logged, records) = timed::<Logged>(crop);
+    assert_eq!((ours.report, &ours.records), (logged, &records));
+    let (plain, records) = timed::<Plain>(crop);
     let marked = ours.report.marked;
-    assert_eq!(
-        ours.report,
-        Report {
-            marked,
-            ..plain.report
-        }
-    );
-    assert_eq!(ours.records, plain.records);
+    let plain = Report { marked, ..plain };
+    assert_eq!((ours.report, &ours.records), (plain, &records));
     ours.report
 }
 
@@ -105,7 +91,7 @@ fn ours(crops: &[Crop], often: usize) -> impl FnMut() -> f64 {
         clock::time((), |()| {
             for _ in 0..often {
                 for ((crop, records), marks) in crops.iter().zip(&mut records).zip(&mut marks) {
-                    search_words(&crop.words, crop.width, crop.height, records, marks);
+                    bullseye::search_words(&crop.words, crop.width, crop.height, records, marks);
                 }
             }
         })

@@ -8,25 +8,60 @@ pub struct Arguments {
     pub files: Vec<OsString>,
     pub output: Option<OsString>,
     pub plain: bool,
+    /// More names are on standard input,
+    pub list: bool,
+    /// parted by zero bytes.
+    pub zero: bool,
+    pub json: bool,
+    pub table: bool,
+    pub least: bool,
+    pub redacted: bool,
+    pub check: bool,
+    pub write: bool,
 }
 
-/// Parts the arguments; an option that is not among those that the command takes is a mistake. `--` ends the options.
-fn parse(args: &[OsString], takes: &[&str]) -> Result<Arguments, Problem> {
-    let mut parsed = Arguments::default();
-    let mut rest = args.iter();
-    while let Some(arg) = rest.next() {
-        match arg.to_str() {
-            Some("--") => parsed.files.extend(rest.by_ref().cloned()),
-            Some("--help" | "-h") => return Err(Problem::Help),
-            Some("-o") if takes.contains(&"-o") => named(&mut parsed.output, &mut rest)?,
-            Some("--plain") if takes.contains(&"--plain") => parsed.plain = true,
-            Some(word) if word.starts_with('-') && word != "-" => {
-                return Err(Problem::Usage(format!("unknown option: {word}")));
+/// The options of a command that reads many files.
+pub const MANY: [&str; 2] = ["--list", "-0"];
+
+impl Arguments {
+    /// Parts the arguments; an option that is not among those that the command takes is a mistake. `--` ends the options.
+    pub fn of(args: &[OsString], takes: &[&str]) -> Result<Self, Problem> {
+        let mut parsed = Arguments::default();
+        let mut rest = args.iter();
+        while let Some(arg) = rest.next() {
+            match arg.to_str() {
+                Some("--") => parsed.files.extend(rest.by_ref().cloned()),
+                Some("--help" | "-h") => return Err(Problem::Help),
+                Some(word) if takes.contains(&word) => parsed.option(word, &mut rest)?,
+                _ if is_option(arg) => {
+                    return Err(Problem::Usage(format!("unknown option: {}", arg.display())));
+                }
+                _ => parsed.files.push(arg.clone()),
             }
-            _ => parsed.files.push(arg.clone()),
         }
+        Ok(parsed)
     }
-    Ok(parsed)
+
+    fn option(&mut self, word: &str, rest: &mut slice::Iter<'_, OsString>) -> Result<(), Problem> {
+        match word {
+            "-o" => return named(&mut self.output, rest),
+            "--plain" => self.plain = true,
+            "--list" => self.list = true,
+            "-0" => (self.list, self.zero) = (true, true),
+            "--json" => self.json = true,
+            "--table" => self.table = true,
+            "--least" => self.least = true,
+            "--redacted" => self.redacted = true,
+            "--check" => self.check = true,
+            "--write" => self.write = true,
+            _ => unreachable!("a command takes {word}, which has no meaning"),
+        }
+        Ok(())
+    }
+}
+
+fn is_option(arg: &OsString) -> bool {
+    arg != "-" && arg.as_encoded_bytes().starts_with(b"-")
 }
 
 /// The file after `-o`, once.
@@ -43,18 +78,9 @@ fn named(
     }
 }
 
-/// One file or more, without options.
-pub fn many(args: &[OsString]) -> Result<Vec<OsString>, Problem> {
-    let parsed = parse(args, &[])?;
-    match parsed.files.is_empty() {
-        false => Ok(parsed.files),
-        true => Err(Problem::Usage("no file is named".into())),
-    }
-}
-
 /// Just one file, and the options.
 pub fn one(args: &[OsString], takes: &[&str]) -> Result<(OsString, Arguments), Problem> {
-    let mut parsed = parse(args, takes)?;
+    let mut parsed = Arguments::of(args, takes)?;
     match (parsed.files.pop(), parsed.files.is_empty()) {
         (Some(file), true) => Ok((file, parsed)),
         (Some(_), false) => Err(Problem::Usage("more than one file is named".into())),

@@ -1,14 +1,39 @@
 //! The commands, one file for each.
-use crate::output::Problem;
-use std::ffi::OsString;
+use crate::{
+    files,
+    image::Image,
+    output::{Problem, of_file},
+    run::{self, Run},
+};
+use crops::Unknown;
+use std::ffi::{OsStr, OsString};
 
 mod blank;
+mod cases;
+mod certify;
 mod check;
+mod compare;
 mod crop;
 mod find;
+mod folder;
 mod pbm;
+mod redact;
 mod summary;
+mod table;
 mod view;
+
+/// What FILE is, in the help of each command that reads many.
+macro_rules! files_help {
+    () => {
+        "\
+FILE is a crop file; - is standard input. Of a folder all files are taken, those of folders in it too, in the order of their names;
+names that begin with a dot are left out.
+--list   more names are on standard input, one to a line
+-0       the same, parted by zero bytes
+"
+    };
+}
+use files_help;
 
 /// A command of the program.
 pub struct Command {
@@ -20,17 +45,49 @@ pub struct Command {
     pub run: fn(&[OsString]) -> Result<bool, Problem>,
 }
 
-pub const COMMANDS: [&Command; 7] = [
+pub const COMMANDS: [&Command; 12] = [
     &check::COMMAND,
     &find::COMMAND,
     &summary::COMMAND,
+    &table::COMMAND,
+    &compare::COMMAND,
     &view::COMMAND,
     &blank::COMMAND,
+    &redact::COMMAND,
+    &certify::COMMAND,
     &pbm::COMMAND,
     &crop::COMMAND,
+    &cases::COMMAND,
 ];
 
-/// The complaint about a refused crop: its number, and what that says.
-fn refusal(number: u32) -> String {
-    format!("refused: {number} {}", host::meaning(number))
+/// The file of a command that takes one crop, read and searched; a refused one is a failure.
+pub struct Searched {
+    pub image: Image,
+    pub run: Run,
+}
+
+impl Searched {
+    fn of(path: &OsStr) -> Result<Self, Problem> {
+        Searched::of_bytes(path, &files::read_one(path)?)
+    }
+
+    /// A crop's bytes, searched; the path is for complaints.
+    fn of_bytes(path: &OsStr, file: &[u8]) -> Result<Self, Problem> {
+        let failed = |reason: String| Problem::Failed(of_file(path, &reason));
+        let searched = Searched::of_file(file).map_err(|unknown| failed(unknown.to_string()))?;
+        searched.map_err(failed)
+    }
+
+    /// The same, or in words why they are refused.
+    pub fn of_file(file: &[u8]) -> Result<Result<Self, String>, Unknown> {
+        let image = match Image::of_file(file) {
+            Ok(image) => image,
+            Err(refusal) => return Ok(Err(refusal)),
+        };
+        let run = run::search(file)?;
+        Ok(match run.seen.refusal() {
+            None => Ok(Searched { image, run }),
+            Some(refusal) => Err(refusal),
+        })
+    }
 }

@@ -1,22 +1,17 @@
 //! Reads the files that are named, one or many; `-` is standard input.
-use crate::output::{Problem, complain, of_file, print, reason};
-use std::{
-    ffi::{OsStr, OsString},
-    fs::File,
-    io::{self, IsTerminal, Read, Write},
-    path::Path,
-    time::{Duration, Instant},
+use crate::{
+    inputs::{Input, Inputs},
+    output::{Output, Problem, failed, of_file, reason},
+    parallel,
+    progress::Progress,
+    run::{self, Seen},
 };
-
-/// What a command says of one file.
-pub struct Said {
-    /// For standard output.
-    pub text: String,
-    /// For standard error, in words.
-    pub complaint: Option<String>,
-    /// Whether the file was as it should be.
-    pub good: bool,
-}
+use crops::Unknown;
+use std::{
+    ffi::OsStr,
+    fs::File,
+    io::{self, Read},
+};
 
 /// A file's first bytes, so many at most.
 pub fn read_some(path: &OsStr, most: usize) -> io::Result<Vec<u8>> {
@@ -31,104 +26,98 @@ pub fn read_some(path: &OsStr, most: usize) -> io::Result<Vec<u8>> {
 }
 
 /// A crop file's bytes, or as many of a longer one as decide its number.
-pub fn read(path: &OsStr) -> io::Result<Vec<u8>> {
-    read_some(path, host::LONGEST)
+fn read(path: &OsStr) -> io::Result<Vec<u8>> {
+    read_some(path, crops::LONGEST)
 }
 
 /// A crop file's bytes, or why the command cannot have them.
 pub fn read_one(path: &OsStr) -> Result<Vec<u8>, Problem> {
-    read(path).map_err(|error| Problem::Failed(of_file(path, &reason(&error))))
+    read(path).map_err(|error| failed(path, &error))
 }
 
-/// How a run over many files ended.
-pub struct Ended {
-    /// Whether each was read, and as it should be.
-    pub good: bool,
-    pub unread: usize,
+/// The bytes of an input, or in words why there are none.
+fn bytes(input: &Input) -> Result<Vec<u8>, String> {
+    match &input.problem {
+        Some(problem) => Err(problem.clone()),
+        None => read(&input.path).map_err(|error| reason(&error)),
+    }
 }
 
-/// Hands each file's bytes to the command and prints what it says; a file that cannot be read is named, and the run goes on.
-pub fn each(
-    paths: &[OsString],
-    mut say: impl FnMut(&Path, &[u8]) -> Said,
-) -> Result<Ended, Problem> {
-    let mut progress = Progress::over(paths.len());
-    let mut ended = Ended {
-        good: true,
-        unread: 0,
+/// What a command makes of a file, or in words why it could not be read.
+type Made<T> = Result<T, String>;
+
+/// Works on each file's bytes, in all threads, and hands what is made of them to `take` in the order of the files. A number that the
+/// tables do not have ends the run.
+pub fn each<T: Send>(
+    inputs: &Inputs,
+    mut progress: Progress,
+    work: impl Fn(&Input, &[u8]) -> Result<T, Unknown> + Sync,
+    mut take: impl FnMut(&Input, Made<T>, &mut Progress) -> Result<(), Problem>,
+) -> Result<(), Problem> {
+    let all = &inputs.all;
+    let made = |at: usize| -> Result<Made<T>, Unknown> {
+        match bytes(&all[at]) {
+            Ok(file) => work(&all[at], &file).map(Ok),
+            Err(problem) => Ok(Err(problem)),
+        }
     };
-    for (done, path) in paths.iter().enumerate() {
-        progress.show(done);
-        match read(path) {
-            Ok(file) => {
-                let said = say(path.as_ref(), &file);
-                progress.print(&said.text)?;
-                progress.complain(path, said.complaint.as_deref());
-                ended.good &= said.good;
-            }
-            Err(error) => {
-                progress.complain(path, Some(&reason(&error)));
-                ended.good = false;
-                ended.unread += 1;
-            }
-        }
-    }
-    progress.clear();
-    Ok(ended)
+    parallel::in_order(all.len(), made, |at, made| {
+        let unknown = |unknown: Unknown| of_file(&all[at].path, &unknown.to_string());
+        let made = made.map_err(|error| Problem::Failed(unknown(error)))?;
+        progress.show(at);
+        take(&all[at], made, &mut progress)
+    })?;
+    progress.finish()
 }
 
-/// The line on a terminal that says how far a run is.
-struct Progress {
-    total: usize,
-    wanted: bool,
-    shares_terminal: bool,
-    shown: bool,
-    last: Option<Instant>,
+/// What a command says of one file.
+pub struct Said {
+    /// For standard output.
+    pub text: Vec<u8>,
+    /// For standard error, in words.
+    pub complaint: Option<String>,
+    /// Whether the file was as it should be.
+    pub good: bool,
 }
 
-impl Progress {
-    /// Shown for many files, when standard error is a terminal.
-    fn over(total: usize) -> Self {
-        Progress {
-            total,
-            wanted: total > 1 && io::stderr().is_terminal(),
-            shares_terminal: io::stdout().is_terminal(),
-            shown: false,
-            last: None,
+/// Prints what a command says of each file; one that cannot be read is named, and the run goes on. True when each was as it should be.
+pub fn say_each(
+    inputs: &Inputs,
+    say: impl Fn(&Input, &[u8]) -> Result<Said, Unknown> + Sync,
+) -> Result<bool, Problem> {
+    let mut good = true;
+    let progress = Progress::over(inputs, Output::to(None)?);
+    each(inputs, progress, say, |input, said, progress| {
+        let said = said.unwrap_or_else(|problem| Said {
+            text: Vec::new(),
+            complaint: Some(problem),
+            good: false,
+        });
+        good &= said.good;
+        progress.print(&said.text)?;
+        match said.complaint {
+            None => Ok(()),
+            Some(complaint) => progress.complain(&input.path, &complaint),
         }
-    }
+    })?;
+    Ok(good)
+}
 
-    /// Writes the line again, ten times a second at most.
-    fn show(&mut self, done: usize) {
-        let early = |last: Instant| last.elapsed() < Duration::from_millis(100);
-        if !self.wanted || self.last.is_some_and(early) {
-            return;
+/// Searches each file and hands what was seen to `take`, after what is refused or cannot be read has been named. True when each was
+/// searched.
+pub fn search_each(
+    inputs: &Inputs,
+    progress: Progress,
+    mut take: impl FnMut(&OsStr, Made<Seen>, &mut Progress) -> Result<(), Problem>,
+) -> Result<bool, Problem> {
+    let mut good = true;
+    let search = |_: &Input, file: &[u8]| run::search(file).map(|run| run.seen);
+    each(inputs, progress, search, |input, seen, progress| {
+        if let Some(complaint) = run::complaint(&seen) {
+            good = false;
+            progress.complain(&input.path, &complaint)?;
         }
-        let _ = write!(io::stderr(), "\r\x1b[Khost: {done} of {} files", self.total);
-        self.shown = true;
-        self.last = Some(Instant::now());
-    }
-
-    /// Prints text; on a terminal it takes the line's place.
-    fn print(&mut self, text: &str) -> Result<(), Problem> {
-        if self.shares_terminal && !text.is_empty() {
-            self.clear();
-        }
-        print(text.as_bytes())
-    }
-
-    /// Names a file and what is wrong with it, if anything is.
-    fn complain(&mut self, path: &OsStr, words: Option<&str>) {
-        if let Some(words) = words {
-            self.clear();
-            complain(&of_file(path, words));
-        }
-    }
-
-    fn clear(&mut self) {
-        if self.shown {
-            let _ = write!(io::stderr(), "\r\x1b[K");
-            self.shown = false;
-        }
-    }
+        take(&input.path, seen, progress)
+    })?;
+    Ok(good)
 }

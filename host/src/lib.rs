@@ -1,4 +1,10 @@
 //! Safe functions over the proved library `tunnel`. None of its functions has a `requires`, so nothing is left to test here.
+//! The tables of answers, of the record's fields and of sizes are those of [`crops`].
+
+pub use crops;
+pub use crops::Report;
+
+pub mod redact;
 
 mod tunnel {
     // A slice crosses as its pointer and its length.
@@ -33,24 +39,19 @@ mod tunnel {
             marks: *mut u64,
             marks_len: usize,
         ) -> super::Report;
+
+        pub fn maxicode_lines(
+            answer: u32,
+            found: u32,
+            kept: u32,
+            marked: u32,
+            records: *const u32,
+            records_len: usize,
+            text: *mut u8,
+            text_len: usize,
+        ) -> usize;
     }
 }
-
-/// What a search answers. After a refusal (answers 1 to 6) the counts are 0 and no buffer has changed.
-#[repr(C)]
-#[derive(Clone, Copy, Debug, Default, PartialEq, Eq)]
-pub struct Report {
-    pub answer: u32,
-    /// The sweep's candidates.
-    pub found: u32,
-    /// Those within the deviation: so many records are filled.
-    pub kept: u32,
-    /// One bits of the marks.
-    pub marked: u32,
-}
-
-/// A file's number does not depend on what follows these bytes (`refusal-prefix` of the crate `crop`): no accepted file is as long.
-pub const LONGEST: usize = 65_536;
 
 /// The first of the numbers 1 to 5 that names what is wrong with a crop file, or 0.
 pub fn check(file: &[u8]) -> u32 {
@@ -111,26 +112,36 @@ pub fn search_file(
     }
 }
 
-/// What a search's answer says.
-pub fn meaning(answer: u32) -> &'static str {
-    match answer {
-        0 => "candidates are kept",
-        1 => "no crop header",
-        2 => "width or height outside 33 to 2,048",
-        3 => "more than 8,000 words",
-        4 => "another length than the dimensions need",
-        5 => "a padding bit is 1",
-        6 => "a buffer of the wrong length",
-        7 => "more candidates than the capacity",
-        8 => "no candidate is kept",
-        _ => "unknown number",
+/// Puts the lines of a run, as the program `find` prints them, at the start of `text`, and answers how long they are. A buffer of less
+/// than `crops::text_room` bytes, or fewer records lent than kept: nothing is written, and the length is 0.
+pub fn put_lines(report: Report, records: &[u32], text: &mut [u8]) -> usize {
+    // SAFETY: each pointer and the length after it are one slice's, lent for the call.
+    unsafe {
+        tunnel::maxicode_lines(
+            report.answer,
+            report.found,
+            report.kept,
+            report.marked,
+            records.as_ptr(),
+            records.len(),
+            text.as_mut_ptr(),
+            text.len(),
+        )
     }
 }
 
-/// What a number of `check` says: its 0 is an accepted file, of which a search answers 0, 7 or 8.
-pub fn check_meaning(number: u32) -> &'static str {
-    if number == 0 {
-        return "accepted";
-    }
-    meaning(number)
+/// The lines of a run: the report's, then one for each kept record; none where fewer records are lent than kept.
+pub fn lines(report: Report, records: &[u32]) -> Vec<u8> {
+    let lent = report.kept as usize <= records.len() / crops::RECORD_WORDS;
+    let mut text = vec![
+        0;
+        if lent {
+            crops::text_room(report.kept)
+        } else {
+            0
+        }
+    ];
+    let length = put_lines(report, records, &mut text);
+    text.truncate(length);
+    text
 }

@@ -1,11 +1,26 @@
-//! The host program: hands crop files to the proved functions and shows what they answer.
+//! The program: hands crop files to the proved functions and shows what they answer.
 mod arguments;
+mod beside;
+mod blanking;
+mod certificate;
+mod changes;
 mod commands;
+mod counts;
+mod csv;
 mod files;
 mod image;
+mod inputs;
+mod json;
+mod kept;
+mod layout;
 mod output;
+mod parallel;
+mod program;
+mod progress;
+mod redacting;
 mod run;
 mod svg;
+mod table;
 
 use commands::{COMMANDS, Command};
 use output::{Problem, complain, print};
@@ -29,11 +44,11 @@ fn main() -> ExitCode {
 
 /// What the program's own `--help` prints.
 fn overview() -> String {
-    let mut text = String::from("Usage: host COMMAND ..\n\nCommands:\n");
+    let mut text = String::from("Usage: bullseye COMMAND ..\n\nCommands:\n");
     for Command { name, what, .. } in COMMANDS {
         text += &format!("  {name:8} {what}\n");
     }
-    text + "\n`host COMMAND --help` tells a command's arguments and its exit status.\n"
+    text + "\n`bullseye COMMAND --help` tells a command's arguments and its exit status.\n"
 }
 
 /// The exit status of a command, after what went wrong has been named.
@@ -44,6 +59,10 @@ fn finish(name: &str, help: &str, result: Result<bool, Problem>) -> ExitCode {
         Err(Problem::Failed(reason)) => {
             complain(&reason);
             ExitCode::FAILURE
+        }
+        Err(Problem::Trouble(reason)) => {
+            complain(&reason);
+            ExitCode::from(2)
         }
         Err(Problem::Usage(problem)) => usage(&format!("{name}: {problem}"), help),
         Err(Problem::Help) => match print(help.as_bytes()) {

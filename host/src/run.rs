@@ -1,136 +1,122 @@
-//! A search with its buffers, and its records by name.
-use crate::image::Image;
-use host::Report;
+//! A search with its buffers, its answer and its records by name.
+use bullseye::Report;
+use crops::{Answer, RECORD_WORDS, RECORDS, Record, Unknown};
 
-/// Records that the program holds.
-pub const RECORDS: usize = 400;
+/// What a search says, all of it known to the tables.
+#[derive(Clone, Debug)]
+pub struct Seen {
+    pub report: Report,
+    pub answer: &'static Answer,
+    /// The kept records, best first.
+    pub records: Vec<Record>,
+}
 
-/// Words of one record.
-pub const RECORD_WORDS: usize = 40;
+impl Seen {
+    /// What a report and the buffer of records say; more kept records than it holds are an error too.
+    fn of(report: Report, buffer: &[u32]) -> Result<Self, Unknown> {
+        let (whole, _) = buffer.as_chunks::<RECORD_WORDS>();
+        let kept = whole.get(..report.kept as usize).ok_or(Unknown {
+            what: "number of kept records",
+            number: report.kept,
+        })?;
+        Ok(Seen {
+            report,
+            answer: crops::answer(report.answer)?,
+            records: kept
+                .iter()
+                .map(Record::of_words)
+                .collect::<Result<_, _>>()?,
+        })
+    }
+
+    /// Why the search refused the file, in words; then there is nothing but its number.
+    pub fn refusal(&self) -> Option<String> {
+        self.answer.refused().then(|| refusal(self.answer))
+    }
+}
+
+/// The complaint about a refused crop: its number, and what that says.
+pub fn refusal(answer: &Answer) -> String {
+    format!("refused: {} {}", answer.number, answer.meaning)
+}
+
+/// The complaint about a file that was refused, or could not be read for this reason.
+pub fn complaint(seen: &Result<Seen, String>) -> Option<String> {
+    match seen {
+        Ok(seen) => seen.refusal(),
+        Err(problem) => Some(problem.clone()),
+    }
+}
 
 /// What a search of a crop file left.
 pub struct Run {
-    pub report: Report,
+    pub seen: Seen,
     /// All record words, those of kept records first.
     pub buffer: Vec<u32>,
     pub marks: Vec<u64>,
-    row_words: usize,
+    width: u32,
 }
 
 /// Searches a crop file; a refused one has no marks.
-pub fn search(file: &[u8]) -> Run {
-    let (words, row_words) =
-        Image::of_file(file).map_or((0, 0), |image| (image.words(), image.width.div_ceil(64)));
+pub fn search(file: &[u8]) -> Result<Run, Unknown> {
+    let (width, words) = match bullseye::check(file) {
+        0 => (
+            crops::dimensions(file).unwrap_or_default().0,
+            crops::words_of(file),
+        ),
+        _ => (0, 0),
+    };
     let mut buffer = vec![0; RECORD_WORDS * RECORDS];
     let mut marks = vec![0; words];
-    let report = host::search_file(file, &mut vec![0; words], &mut buffer, &mut marks);
-    Run {
-        report,
+    let report = bullseye::search_file(file, &mut vec![0; words], &mut buffer, &mut marks);
+    Ok(Run {
+        seen: Seen::of(report, &buffer)?,
         buffer,
         marks,
-        row_words,
-    }
+        width,
+    })
 }
 
 impl Run {
-    /// Whether the search refused the file; then there is nothing but its number.
-    pub fn refused(&self) -> bool {
-        (1..=6).contains(&self.report.answer)
-    }
-
-    /// The kept records, best first.
-    pub fn records(&self) -> impl Iterator<Item = Record> {
-        let kept = self.buffer.chunks_exact(RECORD_WORDS);
-        kept.take(self.report.kept as usize).map(Record::of_words)
-    }
-
     /// Whether the search read a pixel of the image.
-    pub fn has_read(&self, x: usize, y: usize) -> bool {
-        self.marks[y * self.row_words + x / 64] >> (x % 64) & 1 != 0
+    pub fn has_read(&self, x: u32, y: u32) -> bool {
+        crops::pixel(&self.marks, self.width, x, y)
     }
 }
 
-/// How a search for the turn ended.
-#[derive(Clone, Copy, Debug, PartialEq, Eq)]
-pub enum Outcome {
-    NoTurn,
-    Turned,
-    LostCentre,
-}
+#[cfg(test)]
+mod tests {
+    use super::*;
+    use crops::places::{CLASS, OUTCOME};
 
-impl Outcome {
-    pub const ALL: [Outcome; 3] = [Outcome::Turned, Outcome::NoTurn, Outcome::LostCentre];
-
-    pub fn words(self) -> &'static str {
-        match self {
-            Outcome::NoTurn => "no turn",
-            Outcome::Turned => "turned",
-            Outcome::LostCentre => "lost centre",
+    /// What is said of this answer and two records, with this word in the second.
+    fn said(answer: u32, kept: u32, (place, word): (usize, u32)) -> Result<usize, String> {
+        let mut buffer = [0; 2 * RECORD_WORDS];
+        buffer[RECORD_WORDS + place] = word;
+        let report = Report {
+            answer,
+            kept,
+            ..Report::default()
+        };
+        match Seen::of(report, &buffer) {
+            Ok(seen) => Ok(seen.records.len()),
+            Err(unknown) => Err(unknown.to_string()),
         }
     }
 
-    /// The record's word.
-    pub fn number(self) -> u32 {
-        match self {
-            Outcome::NoTurn => 0,
-            Outcome::Turned => 1,
-            Outcome::LostCentre => 2,
-        }
-    }
-
-    /// The library gives no word above 2.
-    fn of_word(word: u32) -> Self {
-        match word {
-            0 => Outcome::NoTurn,
-            1 => Outcome::Turned,
-            _ => Outcome::LostCentre,
-        }
-    }
-}
-
-/// A point of the image; y grows downwards.
-#[derive(Clone, Copy, Debug, PartialEq)]
-pub struct Point {
-    pub x: f32,
-    pub y: f32,
-}
-
-/// A kept candidate: its circle, its box and its turn.
-#[derive(Clone, Copy, Debug, PartialEq)]
-pub struct Record {
-    /// The centre as found.
-    pub x: u32,
-    pub y: u32,
-    pub radius: u32,
-    pub variance: f32,
-    pub outcome: Outcome,
-    pub scale: u32,
-    /// Degrees.
-    pub rotation: f32,
-    /// The last centre inside the image.
-    pub centre: (u32, u32),
-    /// (left, bottom), (left, top), (right, bottom), (right, top).
-    pub corners: [Point; 4],
-    pub class: u32,
-}
-
-impl Record {
-    fn of_words(words: &[u32]) -> Self {
-        let float = |at: usize| f32::from_bits(words[at]);
-        Record {
-            x: words[0],
-            y: words[1],
-            radius: words[2],
-            variance: float(25),
-            outcome: Outcome::of_word(words[26]),
-            scale: words[27],
-            rotation: float(28),
-            centre: (words[29], words[30]),
-            corners: [31, 33, 35, 37].map(|at| Point {
-                x: float(at),
-                y: float(at + 1),
-            }),
-            class: words[39],
+    #[test]
+    fn nothing_unknown_passes_and_nothing_kept_is_dropped() {
+        assert_eq!(said(0, 2, (OUTCOME, 2)), Ok(2));
+        assert_eq!(said(0, 2, (CLASS, 3)), Ok(2));
+        assert_eq!(said(0, 1, (CLASS, 4)), Ok(1));
+        for (answer, kept, word, error) in [
+            (0, 2, (OUTCOME, 3), "unknown outcome: 3"),
+            (0, 2, (CLASS, 4), "unknown class: 4"),
+            (0, 3, (CLASS, 0), "unknown number of kept records: 3"),
+            (9, 0, (CLASS, 0), "unknown answer: 9"),
+            (14, 0, (CLASS, 0), "unknown answer: 14"),
+        ] {
+            assert_eq!(said(answer, kept, word), Err(error.into()));
         }
     }
 }

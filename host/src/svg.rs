@@ -19,7 +19,7 @@ pub fn escaped(text: &str) -> String {
 }
 
 /// A path that fills the pixels which are inside: a rectangle for each run in a row.
-pub fn runs(image: &Image, inside: impl Fn(usize, usize) -> bool) -> String {
+pub fn runs(image: &Image, inside: impl Fn(u32, u32) -> bool) -> String {
     let mut path = String::new();
     for y in 0..image.height {
         let mut x = 0;
@@ -50,8 +50,8 @@ impl Bounds {
         Bounds {
             left: 0.0,
             top: 0.0,
-            right: image.width as f64,
-            bottom: image.height as f64,
+            right: f64::from(image.width),
+            bottom: f64::from(image.height),
         }
     }
 
@@ -63,7 +63,7 @@ impl Bounds {
         self.bottom = self.bottom.max(y + 1.0);
     }
 
-    /// The element's start, with a margin about the picture.
+    /// The element's start, with a margin about the picture, all of it on white.
     pub fn start(&self, zoom: f64, font: f64) -> String {
         let margin = 10.0 / zoom;
         let (left, top) = (self.left - margin, self.top - margin);
@@ -71,7 +71,8 @@ impl Bounds {
         let height = self.bottom - top + margin;
         format!(
             "<svg xmlns=\"http://www.w3.org/2000/svg\" width=\"{:.0}\" height=\"{:.0}\" \
-viewBox=\"{left:.2} {top:.2} {width:.2} {height:.2}\" font-family=\"monospace\" font-size=\"{font:.3}\">\n",
+viewBox=\"{left:.2} {top:.2} {width:.2} {height:.2}\" font-family=\"monospace\" font-size=\"{font:.3}\">\n\
+<rect x=\"{left:.2}\" y=\"{top:.2}\" width=\"{width:.2}\" height=\"{height:.2}\" fill=\"#fff\"/>\n",
             width * zoom,
             height * zoom
         )

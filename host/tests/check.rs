@@ -1,5 +1,5 @@
 //! Compares `check` and `unpack` with a judge on valid, damaged and random files, around each boundary of "Crop file and answer numbers".
-use host::{check, unpack};
+use bullseye::{check, unpack};
 
 /// The judge's number; the second reading gives the same.
 fn judge(file: &[u8]) -> u32 {
@@ -93,7 +93,7 @@ fn compare(file: &[u8], seen: &mut [usize; 6]) {
         let mut expected = words.clone();
         let answer = match number {
             0 if length == needed => {
-                oracle::crop::unpack(file, &mut expected);
+                crops::unpack(file, &mut expected);
                 0
             }
             0 => 6,
@@ -230,8 +230,8 @@ fn a_long_file_has_the_number_of_its_start() {
     let mut seen = [0; 6];
     for (width, height) in [(33, 33), (2048, 250), (2048, 251), (32, 33)] {
         let mut file = header(1, width, height, 0).to_vec();
-        file.resize(host::LONGEST + 9, 0);
+        file.resize(crops::LONGEST + 9, 0);
         compare(&file, &mut seen);
-        assert_eq!(check(&file), check(&file[..host::LONGEST]));
+        assert_eq!(check(&file), check(&file[..crops::LONGEST]));
     }
 }

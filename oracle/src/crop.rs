@@ -1,59 +1,9 @@
-//! The crop file: its header, packing and unpacking, and the checks that refuse an input.
+//! The checks that refuse an input: the judge's own decisions.
 
-/// Bits of a stored word.
-pub const WORD_BITS: usize = 64;
-
-/// Bytes of a file's header.
-pub const HEADER_BYTES: usize = 4;
-
-/// The least width and height.
-pub const LEAST_SIDE: u32 = 33;
-
-/// The greatest width and height.
-pub const GREATEST_SIDE: u32 = 2048;
-
-/// The most words that an image may have.
-pub const MOST_WORDS: usize = 8000;
-
-/// Words of one row.
-pub fn row_words(width: u32) -> usize {
-    (width as usize).div_ceil(WORD_BITS)
-}
-
-/// Bytes of one row in a file.
-pub fn row_bytes(width: u32) -> usize {
-    (width as usize).div_ceil(8)
-}
-
-/// Words of an image.
-pub fn image_words(width: u32, height: u32) -> usize {
-    row_words(width) * height as usize
-}
-
-/// Whether a pixel of an unpacked image is black.
-pub fn pixel(words: &[u64], width: u32, x: u32, y: u32) -> bool {
-    let (x, y) = (x as usize, y as usize);
-    words[y * row_words(width) + x / WORD_BITS] >> (x % WORD_BITS) & 1 != 0
-}
-
-/// Makes a pixel of an unpacked image black.
-pub fn set_pixel(words: &mut [u64], width: u32, x: u32, y: u32) {
-    let (x, y) = (x as usize, y as usize);
-    words[y * row_words(width) + x / WORD_BITS] |= 1 << (x % WORD_BITS);
-}
-
-/// Makes a pixel of an unpacked image white.
-pub fn clear_pixel(words: &mut [u64], width: u32, x: u32, y: u32) {
-    let (x, y) = (x as usize, y as usize);
-    words[y * row_words(width) + x / WORD_BITS] &= !(1 << (x % WORD_BITS));
-}
-
-/// Width and height of a file's header, if the header is one.
-pub fn dimensions(file: &[u8]) -> Option<(u32, u32)> {
-    let header = u32::from_be_bytes(*file.first_chunk::<HEADER_BYTES>()?);
-    let well_formed = header >> 28 == 1 && header & 0xf == 0;
-    well_formed.then_some((header >> 16 & 0xfff, header >> 4 & 0xfff))
-}
+use crops::{
+    GREATEST_SIDE, HEADER_BYTES, LEAST_SIDE, MOST_WORDS, WORD_BITS, dimensions, image_words,
+    row_bytes, row_words, unpack, words_of,
+};
 
 /// Answers 1 to 5 for a file, or 0.
 pub fn check_file(file: &[u8]) -> u32 {
@@ -70,6 +20,19 @@ pub fn check_file(file: &[u8]) -> u32 {
     } else {
         0
     }
+}
+
+/// Unpacks a file into as many words as its image has; answers 1 to 6, or 0.
+pub fn unpack_file(file: &[u8], words: &mut [u64]) -> u32 {
+    let refusal = check_file(file);
+    if refusal != 0 {
+        return refusal;
+    }
+    if words.len() != words_of(file) {
+        return 6;
+    }
+    unpack(file, words);
+    0
 }
 
 /// Answers 2 to 5 for an unpacked image, or 0.
@@ -118,35 +81,10 @@ fn word_padding_set(words: &[u64], width: u32) -> bool {
         .any(|words| words[row - 1] & mask != 0)
 }
 
-/// Unpacks a file that `check_file` accepts into as many words as the image has.
-pub fn unpack(file: &[u8], words: &mut [u64]) {
-    let Some((width, _)) = dimensions(file) else {
-        return;
-    };
-    let rows = file[HEADER_BYTES..].chunks_exact(row_bytes(width));
-    for (row, bytes) in words.chunks_exact_mut(row_words(width)).zip(rows) {
-        for (word, eight) in row.iter_mut().zip(bytes.chunks(8)) {
-            *word = eight.iter().enumerate().fold(0, |word, (place, byte)| {
-                word | u64::from(byte.reverse_bits()) << (8 * place)
-            });
-        }
-    }
-}
-
-/// The file of an unpacked image. Dimensions are cut to the header's twelve bits, rows to the words given.
-pub fn pack(words: &[u64], width: u32, height: u32) -> Vec<u8> {
-    let header = 1 << 28 | (width & 0xfff) << 16 | (height & 0xfff) << 4;
-    let mut file = header.to_be_bytes().to_vec();
-    for row in words.chunks_exact(row_words(width).max(1)) {
-        let bytes = row.iter().flat_map(|word| word.to_le_bytes());
-        file.extend(bytes.take(row_bytes(width)).map(u8::reverse_bits));
-    }
-    file
-}
-
 #[cfg(test)]
 mod tests {
     use super::*;
+    use crops::{pack, set_pixel};
 
     /// An image whose pixels come from a small generator.
     fn noise(width: u32, height: u32) -> Vec<u64> {
@@ -163,19 +101,6 @@ mod tests {
             }
         }
         words
-    }
-
-    #[test]
-    fn unpacking_reverses_packing() {
-        for width in [33, 40, 63, 64, 65, 127, 128, 129, 130] {
-            let words = noise(width, 35);
-            let file = pack(&words, width, 35);
-            assert_eq!(check_file(&file), 0);
-            assert_eq!(check_words(&words, width, 35), 0);
-            let mut unpacked = vec![!0; words.len()];
-            unpack(&file, &mut unpacked);
-            assert_eq!(unpacked, words);
-        }
     }
 
     #[test]

@@ -11,7 +11,7 @@ mod painted;
 mod random;
 
 pub use coverage::Coverage;
-pub use files::{BAD_FAMILIES, BadFile, bad, bad_file, pack};
+pub use files::{BAD_FAMILIES, BadFile, bad, bad_file};
 pub use random::Random;
 
 use families::Made;
@@ -30,7 +30,7 @@ pub struct Crop {
 impl Crop {
     /// The crop file of the image.
     pub fn file(&self) -> Vec<u8> {
-        pack(self.width, self.height, &self.words)
+        crops::pack(&self.words, self.width, self.height)
     }
 }
 

@@ -1,5 +1,6 @@
-//! The judge of the finder: the Rust's own functions, built from its text, and a second reading of document 01.
+//! The judge of the finder: the Rust's own functions, built from its text, and a second reading of the rules.
 
+pub mod cases;
 pub mod crop;
 mod entries;
 pub mod generate;
@@ -7,10 +8,9 @@ pub mod generate;
 pub mod harness;
 pub mod lines;
 pub mod options;
-mod report;
 pub mod second;
 pub mod sines;
 pub mod vectors;
 
+pub use crops::{MOST_CANDIDATES, RECORD_WORDS, Report};
 pub use entries::{Entries, JUDGE, SECOND, SearchWords};
-pub use report::{MOST_CANDIDATES, RECORD_WORDS, Report};

@@ -1,12 +1,13 @@
-//! The lines that document 01's program prints.
+//! The lines that the program `find` prints.
 
 use std::fmt::{LowerHex, Write};
 
-use crate::vectors::{SearchFile, words_of};
-use crate::{RECORD_WORDS, Report, crop};
-
-/// Records that the program holds.
-pub const RECORDS: usize = 400;
+use crate::crop;
+use crate::vectors::SearchFile;
+use crops::places::{
+    CENTER_X, CENTER_Y, CLASS, CORNERS, OUTCOME, RADIUS, ROTATION, SCALE, VARIANCE,
+};
+use crops::{RECORD_WORDS, RECORDS, Report, words_of};
 
 /// What the program prints for a file, by this search of it.
 pub fn of_file(file: &[u8], search: SearchFile) -> String {
@@ -37,13 +38,14 @@ pub fn of_report(report: Report, records: &[u32]) -> String {
 
 /// Centre, radius, outcome, scale, rotation and class in decimal, variance and corners in hex.
 fn of_record(record: &[u32]) -> String {
-    let rotation = f32::from_bits(record[28]);
+    let rotation = f32::from_bits(record[ROTATION]);
     let mut line = String::new();
-    for word in [record[0], record[1], record[2], record[26], record[27]] {
-        let _ = write!(line, "{word} ");
+    for place in [CENTER_X, CENTER_Y, RADIUS, OUTCOME, SCALE] {
+        let _ = write!(line, "{} ", record[place]);
     }
-    let _ = write!(line, "{rotation} {} {:08x} ", record[39], record[25]);
-    line + &hex(&record[31..39], 8)
+    let _ = write!(line, "{rotation} {} ", record[CLASS]);
+    let _ = write!(line, "{:08x} ", record[VARIANCE]);
+    line + &hex(&record[CORNERS..CORNERS + 8], 8)
 }
 
 /// Words in hex with so many digits, parted by spaces.

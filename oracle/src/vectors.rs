@@ -5,7 +5,7 @@
 //! with zeros to a multiple of 8; then, if the image was accepted (answers 0, 7, 8), the kept records as u32 words and
 //! the marks as u64 words.
 
-use crate::{MOST_CANDIDATES, RECORD_WORDS, Report};
+use crops::{MOST_CANDIDATES, RECORD_WORDS, Report, answer, known, unpacked};
 
 const NAME_BYTES: usize = 24;
 
@@ -49,8 +49,8 @@ impl Lent {
 }
 
 /// An image was accepted: the search ran.
-pub fn accepted(answer: u32) -> bool {
-    matches!(answer, 0 | 7 | 8)
+pub fn accepted(number: u32) -> bool {
+    !known(answer(number)).refused()
 }
 
 impl Vector {
@@ -133,30 +133,6 @@ impl Vector {
 
 fn first_difference<T: PartialEq>(a: &[T], b: &[T]) -> Option<usize> {
     (0..a.len().max(b.len())).find(|&i| a.get(i) != b.get(i))
-}
-
-/// The words that a file's dimensions need, or 0 where there is no whole header.
-pub fn words_of(file: &[u8]) -> usize {
-    let Some(&[a, b, c, d]) = file.first_chunk::<4>() else {
-        return 0;
-    };
-    let head = u32::from_be_bytes([a, b, c, d]);
-    ((head >> 16 & 0xfff) as usize).div_ceil(64) * (head >> 4 & 0xfff) as usize
-}
-
-/// The words of a file that was accepted: rows of whole words, column c at bit c mod 64.
-fn unpacked(file: &[u8]) -> Vec<u64> {
-    let head = u32::from_be_bytes([file[0], file[1], file[2], file[3]]);
-    let (width, height) = ((head >> 16 & 0xfff) as usize, (head >> 4 & 0xfff) as usize);
-    let (row_bytes, row_words) = (width.div_ceil(8), width.div_ceil(64));
-    let mut words = vec![0; row_words * height];
-    for y in 0..height {
-        for x in 0..width {
-            let bit = file[4 + y * row_bytes + x / 8] >> (7 - x % 8) & 1;
-            words[y * row_words + x / 64] |= u64::from(bit) << (x % 64);
-        }
-    }
-    words
 }
 
 pub fn write(vectors: &[Vector]) -> Vec<u8> {

@@ -1,8 +1,8 @@
-//! Document 01's near pairs and the facts that are easy to get wrong, each run on the source's functions.
+//! Pairs of near inputs that end differently and the facts that are easy to get wrong, each run on the source's functions.
 #![cfg(source)]
 
 use oracle::harness::{self, steps};
-use oracle::{RECORD_WORDS, Report, crop};
+use oracle::{RECORD_WORDS, Report};
 use steps::Image;
 
 /// The five scales of the source.
@@ -17,7 +17,7 @@ struct Canvas {
 
 impl Canvas {
     fn white(width: u32, height: u32) -> Self {
-        let words = vec![0; crop::image_words(width, height)];
+        let words = vec![0; crops::image_words(width, height)];
         Self {
             words,
             width,
@@ -40,7 +40,7 @@ impl Canvas {
     }
 
     fn black(&mut self, x: u32, y: u32) {
-        crop::set_pixel(&mut self.words, self.width, x, y);
+        crops::set_pixel(&mut self.words, self.width, x, y);
     }
 
     /// Three by three black pixels.
@@ -96,7 +96,7 @@ impl Canvas {
 
     /// Whether the marks have the bit of a column and row, the column possibly in the padding.
     fn marked(&self, marks: &[u64], x: u32, y: u32) -> bool {
-        crop::pixel(marks, self.width, x, y)
+        crops::pixel(marks, self.width, x, y)
     }
 
     /// The whole search, with room for 400 records.

@@ -10,12 +10,12 @@ const MOST: u32 = 4000;
 const EVEN: [usize; 6] = [0, 2, 4, 6, 8, 10];
 const ODD: [usize; 4] = [1, 3, 7, 9];
 
-/// Document 01's rule for one run among runs with this total.
+/// The rule of widths for one run among runs with this total.
 fn passes(total: u32, run: u32) -> bool {
     total < 10 * run && 10 * run < 3 * total
 }
 
-/// Document 01's rule for eleven runs.
+/// The rule of widths for eleven runs.
 fn rule(runs: &[u32; 11]) -> bool {
     [&EVEN[..], &ODD[..]].iter().all(|indices| {
         let total = indices.iter().map(|index| runs[*index]).sum();

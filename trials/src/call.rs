@@ -190,7 +190,7 @@ impl Trial {
             kept,
             marked,
         } = *report;
-        if !(1..=6).contains(&answer) {
+        if !crops::known(crops::answer(answer)).refused() {
             return None;
         }
         if (found, kept, marked) != (0, 0, 0) {
@@ -253,7 +253,7 @@ mod tests {
         (
             |words, width, height, records, marks| {
                 let report = right(words, width, height, records, marks);
-                records[39] = 4;
+                records[crops::places::CLASS] = 4;
                 report
             },
             "record word 39",

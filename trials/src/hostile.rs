@@ -1,7 +1,7 @@
 //! Calls that are mostly refused: each condition on the image and on the buffers is spoilt by itself or with others.
 
+use crops::{GREATEST_SIDE, LEAST_SIDE, MOST_WORDS, WORD_BITS, row_bytes, row_words};
 use oracle::RECORD_WORDS;
-use oracle::crop::{GREATEST_SIDE, LEAST_SIDE, MOST_WORDS, WORD_BITS, row_bytes, row_words};
 use oracle::generate::Random;
 
 use crate::call::{Call, Input};
@@ -159,7 +159,7 @@ impl Caller {
             2 => needed.saturating_add(row),
             3 | 4 => needed.saturating_sub(some),
             5 | 6 => needed.saturating_add(some),
-            _ => host::LONGEST + some,
+            _ => crops::LONGEST + some,
         }
     }
 

@@ -1,6 +1,6 @@
 //! The two-run test: an image searched again after all its unmarked pixels were changed.
 
-use oracle::crop::{WORD_BITS, row_words};
+use crops::{WORD_BITS, row_words};
 use oracle::generate::{Crop, Random};
 use oracle::{Entries, Report};
 

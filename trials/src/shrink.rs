@@ -3,7 +3,7 @@
 use std::io;
 use std::path::PathBuf;
 
-use oracle::crop::{LEAST_SIDE, clear_pixel, image_words, pixel, set_pixel};
+use crops::{LEAST_SIDE, clear_pixel, image_words, pixel, set_pixel};
 use oracle::generate::Crop;
 
 /// Tries after which a crop is left as it is.

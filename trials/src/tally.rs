@@ -3,30 +3,30 @@
 use std::collections::BTreeMap;
 use std::fmt::Write;
 
-use oracle::{RECORD_WORDS, Report};
-
-/// Place of the outcome in a record.
-const OUTCOME: usize = 26;
+use crops::places::OUTCOME;
+use crops::{ANSWERS, Outcome, RECORD_WORDS, Report, known};
 
 #[derive(Default)]
 pub struct Tally {
     /// Seeds tried.
     pub tried: u64,
-    answers: [u64; 9],
-    outcomes: [u64; 3],
+    answers: [u64; ANSWERS.len()],
+    outcomes: [u64; Outcome::ALL.len()],
     named: BTreeMap<(&'static str, &'static str), u64>,
     pub differences: u64,
 }
 
 impl Tally {
-    /// Counts a search and the outcomes of its kept records.
+    /// Counts a search and the outcomes of its kept records; stops at a number that the tables do not have.
     pub fn search(&mut self, report: &Report, records: &[u32]) {
-        self.answers[report.answer as usize] += 1;
+        let answer = known(crops::answer(report.answer));
+        self.answers[answer.number as usize] += 1;
         let kept = records
             .chunks_exact(RECORD_WORDS)
             .take(report.kept as usize);
         for record in kept {
-            self.outcomes[record[OUTCOME] as usize] += 1;
+            let outcome = known(Outcome::of_word(record[OUTCOME]));
+            self.outcomes[outcome.number() as usize] += 1;
         }
     }
 

@@ -7,10 +7,11 @@
 use std::collections::BTreeMap;
 use std::fmt::Debug;
 
+use crops::places::{CLASS, COLUMN_RUNS, CORNERS, OUTCOME, ROW_RUNS, VARIANCE};
 use oracle::generate::{self, Crop, Random};
 use oracle::harness::class;
 use oracle::harness::steps::{self, Boxed, Candidate, Image};
-use oracle::{MOST_CANDIDATES, RECORD_WORDS, crop, options};
+use oracle::{MOST_CANDIDATES, RECORD_WORDS, options};
 
 /// Inputs of each step that reads no image, for each crop.
 const PURE_INPUTS: u32 = 4;
@@ -141,9 +142,9 @@ fn pair<T>((x, y): (T, T)) -> [T; 2] {
 
 fn record_of(candidate: &Candidate) -> [u32; RECORD_WORDS] {
     let mut record = [0; RECORD_WORDS];
-    record[..3].copy_from_slice(&[candidate.centre.0, candidate.centre.1, candidate.radius]);
-    record[3..14].copy_from_slice(&candidate.row_runs);
-    record[14..25].copy_from_slice(&candidate.column_runs);
+    record[..ROW_RUNS].copy_from_slice(&[candidate.centre.0, candidate.centre.1, candidate.radius]);
+    record[ROW_RUNS..COLUMN_RUNS].copy_from_slice(&candidate.row_runs);
+    record[COLUMN_RUNS..VARIANCE].copy_from_slice(&candidate.column_runs);
     record
 }
 
@@ -316,14 +317,20 @@ impl Round<'_> {
         let mut fields = [0; RECORD_WORDS].map(|_: u32| self.random.next() as u32);
         let mut expected = fields;
         let scale = if outcome == 0 { 0 } else { scale };
-        expected[26..31].copy_from_slice(&[outcome, scale, rotation.to_bits(), last.0, last.1]);
+        expected[OUTCOME..CORNERS].copy_from_slice(&[
+            outcome,
+            scale,
+            rotation.to_bits(),
+            last.0,
+            last.1,
+        ]);
         let words = corners
             .iter()
             .flat_map(|corner| [bits(corner.0), bits(corner.1)]);
-        for (word, value) in expected[31..39].iter_mut().zip(words) {
+        for (word, value) in expected[CORNERS..CLASS].iter_mut().zip(words) {
             *word = value;
         }
-        expected[39] = class(rotation);
+        expected[CLASS] = class(rotation);
         let ours = |marks: &mut [u64]| {
             bench::box_symbol(image(crop), marks, &mut fields, centre, radius).map(|_| fields)
         };
@@ -445,10 +452,10 @@ impl Round<'_> {
 
     /// Width and height of an image that is not refused.
     fn sides(&mut self) -> (u32, u32) {
-        let width = self.between(crop::LEAST_SIDE, crop::GREATEST_SIDE);
-        let most = crop::MOST_WORDS / crop::row_words(width);
-        let most = (most as u32).min(crop::GREATEST_SIDE);
-        (width, self.between(crop::LEAST_SIDE, most))
+        let width = self.between(crops::LEAST_SIDE, crops::GREATEST_SIDE);
+        let most = crops::MOST_WORDS / crops::row_words(width);
+        let most = (most as u32).min(crops::GREATEST_SIDE);
+        (width, self.between(crops::LEAST_SIDE, most))
     }
 
     fn boundary(&mut self) {

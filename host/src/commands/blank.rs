@@ -1,107 +1,103 @@
-//! `host blank`: the crop with every pixel that was not read made white.
-use super::{Command, refusal};
-use crate::{
-    arguments, files,
-    image::Image,
-    output::{Problem, complain, deliver, of_file},
-    run::{self, RECORD_WORDS, Run},
+//! `bullseye blank`: crops with every pixel that was not read made white.
+use super::{
+    Command, Searched, files_help,
+    folder::{self, Changed},
 };
-use std::ffi::OsString;
+use crate::{
+    arguments::{Arguments, MANY},
+    blanking::{Blanked, blanked},
+    inputs::Inputs,
+    kept::Kept,
+    output::{Problem, complain, deliver, of_file},
+};
+use std::{
+    ffi::{OsStr, OsString},
+    path::Path,
+};
 
 pub const COMMAND: Command = Command {
     name: "blank",
-    what: "a crop with every pixel that the search did not read made white",
-    help: "\
-Usage: host blank CROP [-o FILE]
+    what: "crops with every pixel that the search did not read made white",
+    help: concat!(
+        "\
+Usage: bullseye blank FILE [-o CROP]
+       bullseye blank [--list | -0] FILE.. -o FOLDER
 
-Searches the crop, makes every pixel white that the search did not read, and searches again. Writes the blanked crop, and says on
-standard error whether both searches agree: in answer and counts, in every word of 400 records, and in the marks.
+Searches a crop, with room for 400 records, makes every pixel white that the search did not read, and searches again: both searches
+must agree in answer and counts, in every word of 400 records, and in the marks. Says how many pixels were kept, and how many rows
+from side to side, but for 6 pixels at each: these still show what stood there, an address too (see redact).
+Of one crop the blanked one is written, and standard error has a line that says whether the searches agree.
+Of several, or with a FOLDER that is there, each blanked crop is written to FOLDER, under the name that it has itself, or below the
+folder that was given; FOLDER is made where it is missing. Standard output has a line for each crop, then one with the total. A crop
+whose searches differ is not written.
 
-CROP is a crop file; - is standard input.
--o FILE  writes there instead of to standard output
-
-Exit status: 0 both searches agree; 1 they differ, or the crop is refused, or a file cannot be read or written; 2 bad usage.
-
-Example: host blank examples/parcel.crop -o blanked.crop
 ",
+        files_help!(),
+        "\
+A file that is refused or cannot be read is named on standard error, with the reason, and does not end the run.
+-o CROP  writes there instead of to standard output
+
+Exit status: 0 all searches agree; 1 two differ, or a file is refused, or cannot be read or written; 2 bad usage.
+
+Example: bullseye blank examples/*.crop -o blanked
+"
+    ),
     run,
 };
 
 fn run(args: &[OsString]) -> Result<bool, Problem> {
-    let (path, options) = arguments::one(args, &["-o"])?;
-    let file = files::read_one(&path)?;
-    let mut image = Image::of_file(&file)
-        .map_err(|number| Problem::Failed(of_file(&path, &refusal(number))))?;
-    let before = run::search(&file);
-    let whitened = blank(&mut image, &before);
-    let blanked = image.file();
-    let difference = difference(&before, &run::search(&blanked));
-    deliver(&blanked, options.output.as_deref())?;
-    let verdict = match &difference {
-        None => "both searches agree in answer, counts, records and marks".into(),
-        Some(what) => format!("the searches differ in {what}"),
+    let arguments = Arguments::of(args, &[&MANY[..], &["-o"]].concat())?;
+    let inputs = Inputs::of(&arguments)?;
+    let output = arguments.output.as_deref();
+    match output {
+        Some(folder) if !inputs.single || Path::new(folder).is_dir() => many(&inputs, folder),
+        None if !inputs.single => Err(Problem::Usage("several crops need -o FOLDER".into())),
+        _ => one(&arguments.files[0], output),
+    }
+}
+
+/// Blanks one crop.
+fn one(path: &OsStr, output: Option<&OsStr>) -> Result<bool, Problem> {
+    let Searched { image, run } = Searched::of(path)?;
+    let done = blanked(image, &run)
+        .map_err(|unknown| Problem::Failed(of_file(path, &unknown.to_string())))?;
+    deliver(&done.file, output)?;
+    complain(&of_file(path, &done.words()));
+    Ok(done.difference.is_none())
+}
+
+/// Blanks many crops into a folder.
+fn many(inputs: &Inputs, folder: &OsStr) -> Result<bool, Problem> {
+    let change = |Searched { image, run }: Searched| {
+        let done = blanked(image, &run)?;
+        Ok(Changed {
+            agrees: done.difference.is_none(),
+            words: done.words(),
+            file: done.file,
+            sums: done.whitened,
+        })
     };
-    let words = format!("made {whitened} unread black pixels white; {verdict}");
-    complain(&of_file(&path, &words));
-    Ok(difference.is_none())
-}
-
-/// Makes each pixel white that the search did not read; how many were black.
-fn blank(image: &mut Image, run: &Run) -> usize {
     let mut whitened = 0;
-    for y in 0..image.height {
-        for x in 0..image.width {
-            if image.is_black(x, y) && !run.has_read(x, y) {
-                image.set(x, y, false);
-                whitened += 1;
-            }
-        }
-    }
-    whitened
+    let total = folder::run(inputs, folder, change, |count: usize| whitened += count)?;
+    total.print(&format!("made {whitened} unread black pixels white"))
 }
 
-/// The first thing that two searches do not have in common.
-fn difference(before: &Run, after: &Run) -> Option<String> {
-    if before.report != after.report {
-        return Some("answer or counts".into());
-    }
-    let words = before.buffer.iter().zip(&after.buffer);
-    if let Some(at) = words.into_iter().position(|(a, b)| a != b) {
-        return Some(format!(
-            "record {}, word {}",
-            at / RECORD_WORDS + 1,
-            at % RECORD_WORDS
-        ));
-    }
-    (before.marks != after.marks).then(|| "the marks".into())
-}
-
-#[cfg(test)]
-mod tests {
-    use super::*;
-
-    /// A change to one of two equal runs is named.
-    fn named(change: impl Fn(&mut Run)) -> Option<String> {
-        let run = || {
-            let mut file = vec![0x10, 0x21, 0x02, 0x10];
-            file.resize(169, 0);
-            run::search(&file)
+impl Blanked {
+    fn words(&self) -> String {
+        let verdict = match &self.difference {
+            None => "both searches agree in answer, counts, records and marks".into(),
+            Some(what) => format!("the searches differ in {what}"),
         };
-        let mut changed = run();
-        change(&mut changed);
-        difference(&run(), &changed)
-    }
-
-    #[test]
-    fn each_difference_is_named() {
-        assert_eq!(named(|_| ()), None);
-        let report = named(|run| run.report.marked += 1);
-        assert_eq!(report.as_deref(), Some("answer or counts"));
-        let first = named(|run| run.buffer[0] = 1);
-        assert_eq!(first.as_deref(), Some("record 1, word 0"));
-        let last = named(|run| run.buffer[15_999] = 1);
-        assert_eq!(last.as_deref(), Some("record 400, word 39"));
-        let marks = named(|run| run.marks[32] ^= 1);
-        assert_eq!(marks.as_deref(), Some("the marks"));
+        let Kept {
+            pixels,
+            of_pixels,
+            rows,
+            of_rows,
+        } = self.kept;
+        format!(
+            "made {} unread black pixels white; kept {pixels} of {of_pixels} pixels, \
+{rows} of {of_rows} rows from side to side; {verdict}",
+            self.whitened
+        )
     }
 }

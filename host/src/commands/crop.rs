@@ -1,4 +1,4 @@
-//! `host crop`: a portable bitmap as a crop.
+//! `bullseye crop`: a portable bitmap as a crop.
 use super::Command;
 use crate::{
     arguments,
@@ -12,7 +12,7 @@ pub const COMMAND: Command = Command {
     name: "crop",
     what: "a portable bitmap as a crop",
     help: "\
-Usage: host crop PICTURE [-o FILE]
+Usage: bullseye crop PICTURE [-o FILE]
 
 Writes a portable bitmap (P1 or P4) as a crop file. Both sides must be of 33 to 2,048 pixels, and the rows, each of whole words
 of 64 pixels, of 8,000 words at most. Only the first picture of a P4 file is taken; a complaint tells of more.
@@ -22,7 +22,7 @@ PICTURE is a portable bitmap; - is standard input. The netpbm tools make one of 
 
 Exit status: 0 written; 1 no bitmap, or none that a crop can hold, or a file cannot be read or written; 2 bad usage.
 
-Example: host crop parcel.pbm -o parcel.crop
+Example: bullseye crop parcel.pbm -o parcel.crop
 ",
     run,
 };
@@ -131,13 +131,15 @@ impl<'a> Reader<'a> {
 
     /// Rows of bits as in a crop; the bits that fill up a row may be any.
     fn raw_rows(&mut self, mut image: Image) -> Result<Image, String> {
-        let row = image.width.div_ceil(8);
-        let rows = self.bytes.get(self.at..self.at + row * image.height);
+        let row = crops::row_bytes(image.width);
+        let rows = self
+            .bytes
+            .get(self.at..self.at + row * image.height as usize);
         let rows = rows.ok_or_else(|| self.short("last row"))?;
         self.at += rows.len();
-        for (y, row) in rows.chunks_exact(row).enumerate() {
+        for (y, row) in (0..).zip(rows.chunks_exact(row)) {
             for x in 0..image.width {
-                image.set(x, y, row[x / 8] & 0x80 >> (x % 8) != 0);
+                image.set(x, y, row[x as usize / 8] & 0x80 >> (x % 8) != 0);
             }
         }
         Ok(image)

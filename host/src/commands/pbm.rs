@@ -1,5 +1,5 @@
-//! `host pbm`: a crop as a portable bitmap.
-use super::{Command, refusal};
+//! `bullseye pbm`: a crop as a portable bitmap.
+use super::Command;
 use crate::{
     arguments, files,
     image::Image,
@@ -11,7 +11,7 @@ pub const COMMAND: Command = Command {
     name: "pbm",
     what: "a crop as a portable bitmap",
     help: "\
-Usage: host pbm CROP [--plain] [-o FILE]
+Usage: bullseye pbm CROP [--plain] [-o FILE]
 
 Writes a crop as a portable bitmap, which picture viewers and the netpbm tools read: P4, or P1 with --plain.
 
@@ -21,19 +21,18 @@ CROP is a crop file; - is standard input.
 
 Exit status: 0 written; 1 the crop is refused, or a file cannot be read or written; 2 bad usage.
 
-Example: host pbm examples/parcel.crop -o parcel.pbm
+Example: bullseye pbm examples/parcel.crop -o parcel.pbm
 ",
     run,
 };
 
 /// Netpbm's longest line of a plain picture.
-const LINE: usize = 70;
+const LINE: u32 = 70;
 
 fn run(args: &[OsString]) -> Result<bool, Problem> {
     let (path, options) = arguments::one(args, &["-o", "--plain"])?;
     let file = files::read_one(&path)?;
-    let image = Image::of_file(&file)
-        .map_err(|number| Problem::Failed(of_file(&path, &refusal(number))))?;
+    let image = Image::of_file(&file).map_err(|reason| Problem::Failed(of_file(&path, &reason)))?;
     let picture = match options.plain {
         true => plain(&image),
         false => raw(&image),

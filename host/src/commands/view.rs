@@ -1,85 +1,153 @@
-//! `host view`: a crop and what the search found in it, as a picture.
-use super::{Command, refusal};
+//! `bullseye view`: a crop and what the search found in it, as a picture.
+use super::{Command, Searched};
 use crate::{
-    arguments, files,
+    arguments,
     image::Image,
     output::{Problem, deliver, of_file},
-    run::{self, Outcome, Record, Run},
+    redacting::{black_pixels, redaction},
+    run::Run,
     svg::{Bounds, escaped, runs},
 };
-use std::{ffi::OsString, path::Path};
+use bullseye::redact::Extent;
+use crops::{Outcome, Record};
+use std::{
+    ffi::{OsStr, OsString},
+    path::Path,
+};
 
 pub const COMMAND: Command = Command {
     name: "view",
     what: "a crop and what the search found in it, as a picture (SVG)",
     help: "\
-Usage: host view CROP [-o FILE]
+Usage: bullseye view [--redacted [--least]] CROP [-o FILE]
 
 Searches the crop, with room for 400 records, and writes an SVG, which any browser shows: the pixels; in blue, those that the
 search read; for each kept record its circle, its box and its rank, green when turned, orange when there is no turn, red when the
 centre was lost; an arrow from the centre to the symbol's top; and below, a line for each record with outcome, degrees and class.
 A box is drawn as its record has it: where a turned corner would lie left of the crop or above it, the box is skewed.
 
+--redacted  shows the redacted crop (see redact), and in grey what was taken away, instead of what was read
+--least     the redaction spares nothing
 CROP is a crop file; - is standard input.
 -o FILE  writes there instead of to standard output
 
 Exit status: 0 written; 1 the crop is refused, or a file cannot be read or written; 2 bad usage.
 
-Example: host view examples/parcel.crop -o parcel.svg
+Example: bullseye view examples/parcel.crop -o parcel.svg
 ",
     run,
 };
 
 /// About so many units of the screen for the longer side.
-const SCREEN: usize = 900;
+const SCREEN: u32 = 900;
 
 /// Of the text, in units of the screen.
 const FONT: f64 = 13.0;
 const LINE: f64 = 18.0;
-const LEAST_WIDTH: f64 = 640.0;
+
+/// Degrees from one rank's place at its circle to the next one's, so that ranks of near circles stand side by side.
+const RANK_STEP: f64 = 30.0;
 
 /// An arrow's length, in radii.
 const ARROW_RADII: f64 = 2.0;
 
 fn run(args: &[OsString]) -> Result<bool, Problem> {
-    let (path, options) = arguments::one(args, &["-o"])?;
-    let file = files::read_one(&path)?;
-    let image = Image::of_file(&file)
-        .map_err(|number| Problem::Failed(of_file(&path, &refusal(number))))?;
+    let (path, options) = arguments::one(args, &["-o", "--redacted", "--least"])?;
+    if options.least && !options.redacted {
+        return Err(Problem::Usage("--least is for --redacted".into()));
+    }
+    let crop = Searched::of(&path)?;
+    let left = match options.redacted {
+        false => None,
+        true => Some(redacted(&path, &crop, options.extent())?),
+    };
     let name = Path::new(&path).display().to_string();
-    let picture = picture(&name, &image, &run::search(&file));
+    let picture = picture(&name, &crop, left.as_ref());
     deliver(picture.as_bytes(), options.output.as_deref())?;
     Ok(true)
 }
 
-/// The whole picture; a unit is a pixel of the crop, shown `zoom` units of the screen wide.
-fn picture(name: &str, image: &Image, run: &Run) -> String {
-    let zoom = (SCREEN / image.width.max(image.height)).max(1) as f64;
+/// The redacted crop's image.
+fn redacted(path: &OsStr, crop: &Searched, extent: Extent) -> Result<Image, Problem> {
+    let failed = |reason: String| Problem::Failed(of_file(path, &reason));
+    let redacted = redaction(crop, extent).map_err(|unknown| failed(unknown.to_string()))?;
+    match redacted.difference {
+        None => Image::of_file(&redacted.file).map_err(failed),
+        Some(what) => Err(failed(format!("redacted, it differs in {what}"))),
+    }
+}
+
+/// The whole picture, of a redaction where one is given; a unit is a pixel of the crop, shown `zoom` units of the screen wide.
+fn picture(name: &str, Searched { image, run }: &Searched, left: Option<&Image>) -> String {
+    let zoom = (SCREEN / image.width.max(image.height)).max(1).into();
     let mut bounds = Bounds::of(image);
     let mut records = String::new();
-    let mut legend = caption(name, image, run);
-    for (rank, record) in (1..).zip(run.records()) {
-        let label = label(rank, &record);
-        include(&mut bounds, &record);
-        records += &drawn(rank, &record, &label, zoom);
+    let (pixels, words) = pixels(image, run, left);
+    let mut legend = caption(name, image, run, &words);
+    for (rank, record) in (1..).zip(&run.seen.records) {
+        let label = label(rank, record);
+        include(
+            &mut bounds,
+            record,
+            rank_place(rank, record, FONT / zoom),
+            FONT / zoom,
+        );
+        // The best stands last, and so on top.
+        records.insert_str(0, &drawn(rank, record, &label, zoom));
         legend.push((colour(record.outcome), label));
     }
-    let black = runs(image, |x, y| image.is_black(x, y));
-    let read = runs(image, |x, y| run.has_read(x, y));
     let (width, height) = (image.width, image.height);
-    let frame = 1.0 / zoom;
     let top = bounds.bottom + LINE / zoom;
     let text = lines(&legend, bounds.left, top, zoom);
     bounds.bottom = top + LINE / zoom * legend.len() as f64;
-    bounds.right = bounds.right.max(bounds.left + LEAST_WIDTH / zoom);
+    let longest = legend.iter().map(|(_, line)| text_width(line));
+    let longest = longest.fold(0.0, f64::max) * FONT / zoom;
+    bounds.right = bounds.right.max(bounds.left + longest);
     let start = bounds.start(zoom, FONT / zoom);
     format!(
         "{start}<title>{}</title>\n{ARROW}\
-<rect class=\"page\" width=\"{width}\" height=\"{height}\" fill=\"#fff\" stroke=\"#999\" stroke-width=\"{frame}\"/>\n\
-<path class=\"pixels\" fill=\"#000\" shape-rendering=\"crispEdges\" d=\"{black}\"/>\n\
-<path class=\"read\" fill=\"#2a7fff\" fill-opacity=\"0.4\" shape-rendering=\"crispEdges\" d=\"{read}\"/>\n\
-{records}{text}</svg>\n",
-        escaped(name)
+<rect class=\"page\" width=\"{width}\" height=\"{height}\" fill=\"#fff\"/>\n{}{pixels}{records}{text}</svg>\n",
+        escaped(name),
+        frame(image, 1.0 / zoom)
+    )
+}
+
+/// The black pixels, and over them in blue those that were read; of a redaction those that are left, and in grey those that are not.
+/// Then what the second colour says, in words.
+fn pixels(image: &Image, run: &Run, left: Option<&Image>) -> (String, String) {
+    let black = left.unwrap_or(image);
+    let gone = |x: u32, y: u32| image.is_black(x, y) && !black.is_black(x, y);
+    let path = |class: &str, fill: &str, pixels: String| {
+        format!(
+            "<path class=\"{class}\" fill=\"{fill}\" shape-rendering=\"crispEdges\" d=\"{pixels}\"/>\n"
+        )
+    };
+    let below = path("pixels", "#000", runs(image, |x, y| black.is_black(x, y)));
+    let (above, words) = match left {
+        None => {
+            let fill = "#2a7fff\" fill-opacity=\"0.4";
+            let read = path("read", fill, runs(image, |x, y| run.has_read(x, y)));
+            (read, "blue: pixels that were read".into())
+        }
+        Some(left) => {
+            let away = black_pixels(image) - black_pixels(left);
+            let words = format!(
+                "grey: {away} of {} black pixels, taken away",
+                black_pixels(image)
+            );
+            (path("gone", "#bbb", runs(image, gone)), words)
+        }
+    };
+    (below + &above, words)
+}
+
+/// A line about the crop, just outside its pixels.
+fn frame(image: &Image, line: f64) -> String {
+    let [width, height] = [image.width, image.height].map(|side| f64::from(side) + line);
+    let start = -line / 2.0;
+    format!(
+        "<rect x=\"{start:.3}\" y=\"{start:.3}\" width=\"{width:.3}\" height=\"{height:.3}\" fill=\"none\" stroke=\"#999\" \
+stroke-width=\"{line:.3}\"/>\n"
     )
 }
 
@@ -91,7 +159,7 @@ const ARROW: &str = "\
 fn colour(outcome: Outcome) -> &'static str {
     match outcome {
         Outcome::Turned => "#008a3c",
-        Outcome::NoTurn => "#d97700",
+        Outcome::NoTurn => "#b35900",
         Outcome::LostCentre => "#d0021b",
     }
 }
@@ -113,15 +181,24 @@ fn label(rank: usize, record: &Record) -> String {
 }
 
 /// The lines above those of the records.
-fn caption(name: &str, image: &Image, run: &Run) -> Vec<(&'static str, String)> {
-    let report = run.report;
-    let answer = format!("answer {} {}", report.answer, host::meaning(report.answer));
+fn caption(name: &str, image: &Image, run: &Run, words: &str) -> Vec<(&'static str, String)> {
+    let report = run.seen.report;
+    let answer = format!(
+        "answer {} {}",
+        run.seen.answer.number, run.seen.answer.meaning
+    );
     let counts = format!(
-        "found {}, kept {}, marked {} (blue: pixels that were read)",
+        "found {}, kept {}, marked {} ({words})",
         report.found, report.kept, report.marked
     );
     let size = format!("{name}: {} by {} pixels", image.width, image.height);
     [size, answer, counts].map(|line| ("#000", line)).into()
+}
+
+/// At least the width of a line of text, in units of its font's size; letters of other scripts can be as wide as high.
+fn text_width(line: &str) -> f64 {
+    let width = |letter: char| if letter.is_ascii() { 0.62 } else { 1.1 };
+    line.chars().map(width).sum()
 }
 
 /// A record's circle, box, turn and rank; its points are in the middle of their pixels.
@@ -134,18 +211,26 @@ fn drawn(rank: usize, record: &Record, label: &str, zoom: f64) -> String {
     let Record { x, y, radius, .. } = *record;
     let (stroke, font, halo) = (2.0 / zoom, FONT / zoom, 4.0 / zoom);
     let colour = colour(record.outcome);
+    let (rank_x, rank_y) = rank_place(rank, record, font);
     format!(
         "<g class=\"record\" transform=\"translate(0.5 0.5)\" fill=\"none\" stroke=\"{colour}\" stroke-width=\"{stroke:.3}\">\
 <title>{label}</title>\n\
 <circle cx=\"{x}\" cy=\"{y}\" r=\"{radius}\"/>\n\
 <polygon points=\"{}\"/>\n{}\
-<text x=\"{}\" y=\"{:.2}\" fill=\"{colour}\" stroke=\"#fff\" stroke-width=\"{halo:.3}\" paint-order=\"stroke\">\
-{rank}</text>\n</g>\n",
+<text x=\"{rank_x:.2}\" y=\"{rank_y:.2}\" text-anchor=\"middle\" font-weight=\"bold\" fill=\"{colour}\" stroke=\"#fff\" \
+stroke-width=\"{halo:.3}\" paint-order=\"stroke\">{rank}</text>\n</g>\n",
         corners.join(" "),
         centre(record),
-        x + radius + 1,
-        f64::from(y) + font / 3.0,
     )
+}
+
+/// Where a rank's text stands about its circle: the first to the right of it, the next ones clockwise.
+fn rank_place(rank: usize, record: &Record, font: f64) -> (f64, f64) {
+    let turn = (rank - 1) as f64 * RANK_STEP;
+    let (sine, cosine) = turn.to_radians().sin_cos();
+    let away = f64::from(record.radius) + font;
+    let (x, y) = (f64::from(record.x), f64::from(record.y));
+    (x + away * cosine, y + away * sine + font / 3.0)
 }
 
 /// The tip of a turn's arrow, which points from the corrected centre to the symbol's first row.
@@ -171,8 +256,10 @@ fn centre(record: &Record) -> String {
     }
 }
 
-/// Makes room for a record's circle, box and arrow.
-fn include(bounds: &mut Bounds, record: &Record) {
+/// Makes room for a record's circle, box and arrow, and for its rank of this font at its place.
+fn include(bounds: &mut Bounds, record: &Record, (rank_x, rank_y): (f64, f64), font: f64) {
+    bounds.reach(rank_x - font, rank_y - font);
+    bounds.reach(rank_x + font, rank_y);
     let (x, y) = (f64::from(record.x), f64::from(record.y));
     let radius = f64::from(record.radius);
     bounds.reach(x - radius, y - radius);

@@ -1,28 +1,28 @@
-//! `host crop`, and `host pbm` back.
+//! `bullseye crop`, and `bullseye pbm` back.
 use super::*;
 
 /// The crop of a picture that is one.
 fn made(folder: &Folder, picture: &[u8]) -> Vec<u8> {
-    let ran = folder.host_reading(&["crop", "-"], picture);
+    let ran = folder.bullseye_reading(&["crop", "-"], picture);
     assert_eq!((ran.code, ran.err.as_str()), (Some(0), ""));
-    assert_eq!(host::check(&ran.out), 0);
+    assert_eq!(bullseye::check(&ran.out), 0);
     ran.out
 }
 
 /// Why a picture is none.
 fn refused(folder: &Folder, picture: &[u8]) -> String {
-    let ran = folder.host_reading(&["crop", "-"], picture);
+    let ran = folder.bullseye_reading(&["crop", "-"], picture);
     assert_eq!((ran.code, ran.out.len()), (Some(1), 0), "{}", ran.err);
     let complaint = ran
         .err
-        .strip_prefix("host: -: ")
+        .strip_prefix("bullseye: -: ")
         .expect("it names the file");
     complaint.trim_end().to_owned()
 }
 
 /// A crop with noise of its own for each width.
 fn noise(width: u32, height: u32) -> Vec<u8> {
-    let mut words = vec![0; oracle::crop::image_words(width, height)];
+    let mut words = vec![0; crops::image_words(width, height)];
     let mut state = 0x9e37_79b9_7f4a_7c15 ^ u64::from(width);
     for y in 0..height {
         for x in 0..width {
@@ -30,11 +30,11 @@ fn noise(width: u32, height: u32) -> Vec<u8> {
             state ^= state >> 7;
             state ^= state << 17;
             if state & 1 != 0 {
-                oracle::crop::set_pixel(&mut words, width, x, y);
+                crops::set_pixel(&mut words, width, x, y);
             }
         }
     }
-    oracle::crop::pack(&words, width, height)
+    crops::pack(&words, width, height)
 }
 
 #[test]
@@ -45,13 +45,13 @@ fn there_and_back() {
         let crop = noise(width, height);
         folder.write("crop", &crop);
         for plain in [&[][..], &["--plain"]] {
-            let picture = folder.host(&[&["pbm", "crop"], plain].concat()).out;
+            let picture = folder.bullseye(&[&["pbm", "crop"], plain].concat()).out;
             assert_eq!(made(&folder, &picture), crop, "{width} by {height}");
             folder.write("picture", &picture);
-            let ran = folder.host(&["crop", "picture", "-o", "again"]);
+            let ran = folder.bullseye(&["crop", "picture", "-o", "again"]);
             assert_eq!((ran.code, ran.out.len()), (Some(0), 0));
             assert_eq!(folder.read("again"), crop);
-            let again = folder.host(&[&["pbm", "again"], plain].concat()).out;
+            let again = folder.bullseye(&[&["pbm", "again"], plain].concat()).out;
             assert_eq!(again, picture);
         }
     }
@@ -113,10 +113,10 @@ fn comments_and_fill_bits_of_a_raw_picture() {
 fn only_the_first_picture() {
     let folder = Folder::new("crop-first");
     folder.write("white", &white());
-    let picture = folder.host(&["pbm", "white"]).out;
-    let ran = folder.host_reading(&["crop", "-"], &[&picture[..], &picture].concat());
+    let picture = folder.bullseye(&["pbm", "white"]).out;
+    let ran = folder.bullseye_reading(&["crop", "-"], &[&picture[..], &picture].concat());
     assert_eq!((ran.code, ran.out), (Some(0), white()));
-    let complaint = "host: -: only its first picture is taken; there is more in the file\n";
+    let complaint = "bullseye: -: only its first picture is taken; there is more in the file\n";
     assert_eq!(ran.err, complaint);
 }
 

@@ -7,20 +7,27 @@ use std::{
     os::unix::{ffi::OsStringExt, fs::PermissionsExt},
 };
 
-const COMMANDS: [&str; 7] = ["check", "find", "summary", "view", "blank", "pbm", "crop"];
+const COMMANDS: [&str; 10] = [
+    "check", "find", "summary", "table", "compare", "view", "blank", "redact", "pbm", "crop",
+];
+
+/// Those that take one file or more, as their last argument.
+const OF_FILES: [&str; 9] = [
+    "check", "find", "summary", "table", "view", "blank", "redact", "pbm", "crop",
+];
 
 #[test]
 fn help() {
     let folder = Folder::new("help");
-    let all = folder.host(&["--help"]);
+    let all = folder.bullseye(&["--help"]);
     assert_eq!(all.code, Some(0));
     for name in COMMANDS {
         assert!(all.text().contains(&format!("\n  {name} ")), "{name}");
         for ask in [&[name, "--help"][..], &[name, "file", "-h"]] {
-            let ran = folder.host(ask);
+            let ran = folder.bullseye(ask);
             assert_eq!((ran.code, ran.err.as_str()), (Some(0), ""), "{ask:?}");
-            assert!(ran.text().starts_with(&format!("Usage: host {name} ")));
-            for part in ["\nExit status: 0 ", "; 2 bad usage.", "\nExample: host "] {
+            assert!(ran.text().starts_with(&format!("Usage: bullseye {name} ")));
+            for part in ["\nExit status: 0 ", "; 2 bad usage", "\nExample: bullseye "] {
                 assert!(ran.text().contains(part), "{name}: {part}");
             }
         }
@@ -42,10 +49,10 @@ fn bad_usage() {
         &["crop", "--plain", "one"],
     ];
     for args in wrong {
-        let ran = folder.host(args);
+        let ran = folder.bullseye(args);
         assert_eq!((ran.code, ran.text().as_str()), (Some(2), ""), "{args:?}");
-        assert!(ran.err.starts_with("host: "), "{}", ran.err);
-        assert!(ran.err.contains("\nUsage: host "), "{}", ran.err);
+        assert!(ran.err.starts_with("bullseye: "), "{}", ran.err);
+        assert!(ran.err.contains("\nUsage: bullseye "), "{}", ran.err);
     }
 }
 
@@ -53,7 +60,7 @@ fn bad_usage() {
 fn names_after_two_dashes() {
     let folder = Folder::new("dashes");
     folder.write("-o", &white());
-    let ran = folder.host(&["check", "--", "-o"]);
+    let ran = folder.bullseye(&["check", "--", "-o"]);
     assert_eq!(
         (ran.code, ran.text().as_str()),
         (Some(0), "-o: 0 accepted\n")
@@ -65,20 +72,23 @@ fn files_that_are_none() {
     let folder = Folder::new("none");
     fs::create_dir(folder.0.join("inner")).expect("a folder is made");
     folder.write("empty", &[]);
-    for name in COMMANDS {
+    for name in OF_FILES {
+        let inner = match name {
+            "check" | "find" | "summary" | "table" => "a folder without files",
+            "blank" | "redact" => "",
+            _ => "a folder, not a file",
+        };
         let cases = [
-            ("missing", "host: missing: no such file\n"),
-            ("inner", "host: inner: a directory, not a file\n"),
-            (
-                "empty/x",
-                "host: empty/x: a part of its path is not a directory\n",
-            ),
+            ("missing", "no such file"),
+            ("inner", inner),
+            ("empty/x", "a part of its path is not a folder"),
         ];
-        for (file, complaint) in cases {
-            let ran = folder.host(&[name, file]);
-            assert_eq!((ran.code, ran.err.as_str()), (Some(1), complaint), "{name}");
+        for (file, reason) in cases.iter().filter(|(_, reason)| !reason.is_empty()) {
+            let ran = folder.bullseye(&[name, file]);
+            let complaint = format!("bullseye: {file}: {reason}\n");
+            assert_eq!((ran.code, ran.err), (Some(1), complaint), "{name}");
         }
-        let ran = folder.host(&[name, "empty"]);
+        let ran = folder.bullseye(&[name, "empty"]);
         assert_eq!(ran.code, Some(1), "{name}");
     }
 }
@@ -91,8 +101,8 @@ fn a_file_without_permission() {
     fs::set_permissions(folder.0.join("locked"), none).expect("its mode is set");
     // Root may read it all the same.
     if File::open(folder.0.join("locked")).is_err() {
-        let ran = folder.host(&["check", "locked"]);
-        assert_eq!(ran.err, "host: locked: permission denied\n");
+        let ran = folder.bullseye(&["check", "locked"]);
+        assert_eq!(ran.err, "bullseye: locked: permission denied\n");
         assert_eq!(ran.code, Some(1));
     }
 }
@@ -102,8 +112,8 @@ fn a_huge_file() {
     let folder = Folder::new("huge");
     let file = File::create(folder.0.join("huge")).expect("a file is made");
     file.set_len(1 << 40).expect("it may have holes");
-    for name in COMMANDS {
-        let ran = folder.host(&[name, "huge"]);
+    for name in OF_FILES {
+        let ran = folder.bullseye(&[name, "huge"]);
         assert_eq!(ran.code, Some(1), "{name}");
     }
 }
@@ -113,11 +123,17 @@ fn a_name_that_is_no_text() {
     let folder = Folder::new("name");
     let name = OsString::from_vec(b"\xff<&\x1b.crop".to_vec());
     fs::write(folder.0.join(&name), parcel()).expect("a file is written");
-    for command in COMMANDS {
-        let ran = folder.host(&[OsStr::new(command), &name]);
+    for command in OF_FILES {
+        let ran = folder.bullseye(&[OsStr::new(command), &name]);
         let expected = if command == "crop" { 1 } else { 0 };
         assert_eq!(ran.code, Some(expected), "{command}: {}", ran.err);
     }
+    // What is printed has the name's own bytes; a complaint shows no control characters.
+    let ran = folder.bullseye(&[OsStr::new("check"), &name]);
+    assert_eq!(ran.out, b"\xff<&\x1b.crop: 0 accepted\n");
+    let ran = folder.bullseye(&[OsStr::new("crop"), &name]);
+    let shown = "bullseye: \u{fffd}<&\u{fffd}.crop: ";
+    assert!(ran.err.starts_with(shown), "{:?}", ran.err);
 }
 
 /// A pipe that nobody reads.
@@ -132,7 +148,7 @@ fn closed_pipes() {
     let folder = Folder::new("pipe");
     folder.write("parcel", &parcel());
     folder.write("picture", &[b"P4 33 33\n", &white()[4..]].concat());
-    for name in COMMANDS {
+    for name in OF_FILES {
         let file = if name == "crop" { "picture" } else { "parcel" };
         let output = folder.command(&[name, file]).stdout(closed()).output();
         let output = output.expect("the program runs");
@@ -159,20 +175,23 @@ fn closed_standard_error() {
 fn outputs_that_cannot_be_written() {
     let folder = Folder::new("full");
     folder.write("parcel", &parcel());
-    for name in ["check", "find", "summary", "view", "blank", "pbm"] {
+    for name in ["check", "find", "summary", "table", "view", "blank", "pbm"] {
         let full = File::options().write(true).open("/dev/full");
         let full = full.expect("the system has /dev/full");
         let output = folder.command(&[name, "parcel"]).stdout(full).output();
         let output = output.expect("the program runs");
         let errors = String::from_utf8_lossy(&output.stderr);
-        assert_eq!(errors, "host: standard output: no space left\n", "{name}");
+        assert_eq!(
+            errors, "bullseye: standard output: no space left\n",
+            "{name}"
+        );
         assert_eq!(output.status.code(), Some(1));
     }
-    for name in ["view", "blank", "pbm"] {
-        let ran = folder.host(&[name, "parcel", "-o", "no/where"]);
+    for name in ["table", "view", "blank", "pbm"] {
+        let ran = folder.bullseye(&[name, "parcel", "-o", "no/where"]);
         assert_eq!(ran.code, Some(1));
         assert!(
-            ran.err.ends_with("host: no/where: no such file\n"),
+            ran.err.ends_with("bullseye: no/where: no such file\n"),
             "{}",
             ran.err
         );

@@ -1,4 +1,4 @@
-//! `host find`.
+//! `bullseye find`.
 use super::*;
 use std::fmt::Write;
 
@@ -33,10 +33,10 @@ fn expected(file: &[u8]) -> String {
 fn one_file_has_the_lines_alone() {
     let folder = Folder::new("find-one");
     folder.write("parcel", &parcel());
-    let ran = folder.host(&["find", "parcel"]);
+    let ran = folder.bullseye(&["find", "parcel"]);
     assert_eq!((ran.code, ran.err.as_str()), (Some(0), ""));
     assert_eq!(ran.text(), PARCEL);
-    let ran = folder.host_reading(&["find", "-"], &white());
+    let ran = folder.bullseye_reading(&["find", "-"], &white());
     assert_eq!((ran.code, ran.text().as_str()), (Some(0), WHITE));
 }
 
@@ -46,11 +46,11 @@ fn a_bad_file_does_not_end_the_run() {
     folder.write("parcel", &parcel());
     folder.write("white", &white());
     folder.write("text", b"no crop");
-    let ran = folder.host(&["find", "parcel", "text", "missing", "white"]);
+    let ran = folder.bullseye(&["find", "parcel", "text", "missing", "white"]);
     let refused = "answer 1 found 0 kept 0 marked 0\n";
     let lines = format!("parcel:\n{PARCEL}text:\n{refused}white:\n{WHITE}");
     assert_eq!(ran.text(), lines);
-    let complaints = "host: text: refused: 1 no crop header\nhost: missing: no such file\n";
+    let complaints = "bullseye: text: refused: 1 no crop header\nbullseye: missing: no such file\n";
     assert_eq!(ran.err, complaints);
     assert_eq!(ran.code, Some(1));
 }
@@ -67,7 +67,7 @@ fn the_judges_lines() {
         lines += &format!("{name}:\n{}", expected(&file));
         args.push(name);
     }
-    let ran = folder.host(&args);
+    let ran = folder.bullseye(&args);
     assert_eq!(ran.text(), lines);
     for answer in [0, 1, 4, 8] {
         assert!(lines.contains(&format!("\nanswer {answer} ")), "{answer}");
@@ -78,7 +78,7 @@ fn the_judges_lines() {
 fn more_candidates_than_records() {
     let folder = Folder::new("find-many");
     folder.write("crowded", &crowded());
-    let ran = folder.host(&["find", "crowded"]);
+    let ran = folder.bullseye(&["find", "crowded"]);
     assert_eq!(ran.text(), expected(&crowded()));
     let start = "answer 7 found 401 kept 0 ";
     assert!(ran.text().starts_with(start), "{}", ran.text());

@@ -1,4 +1,4 @@
-//! Runs the program `host` on files of its own making, in a folder of its own; a module for each command.
+//! Runs the program `bullseye` on files of its own making, in a folder of its own; a module for each command.
 use std::{
     env,
     ffi::OsStr,
@@ -9,20 +9,29 @@ use std::{
 };
 
 mod blank;
+mod browser;
+mod cases;
+mod certify;
 mod check;
+mod compare;
 mod crop;
 mod ends;
 mod find;
+mod many;
+mod ocr;
 mod pbm;
+mod redact;
 mod summary;
+mod table;
 mod view;
+mod writing;
 
 /// A folder that is removed with its files.
 struct Folder(PathBuf);
 
 impl Folder {
     fn new(name: &str) -> Self {
-        let folder = env::temp_dir().join(format!("host-{name}-{}", process::id()));
+        let folder = env::temp_dir().join(format!("bullseye-{name}-{}", process::id()));
         fs::create_dir_all(&folder).expect("a folder is made");
         Folder(folder)
     }
@@ -36,17 +45,17 @@ impl Folder {
     }
 
     fn command(&self, args: &[impl AsRef<OsStr>]) -> Command {
-        let mut command = Command::new(env!("CARGO_BIN_EXE_host"));
+        let mut command = Command::new(env!("CARGO_BIN_EXE_bullseye"));
         command.args(args).current_dir(&self.0);
         command
     }
 
-    fn host(&self, args: &[impl AsRef<OsStr>]) -> Ran {
-        self.host_reading(args, &[])
+    fn bullseye(&self, args: &[impl AsRef<OsStr>]) -> Ran {
+        self.bullseye_reading(args, &[])
     }
 
     /// Runs the program with these bytes on its standard input.
-    fn host_reading(&self, args: &[impl AsRef<OsStr>], input: &[u8]) -> Ran {
+    fn bullseye_reading(&self, args: &[impl AsRef<OsStr>], input: &[u8]) -> Ran {
         let mut child = self
             .command(args)
             .stdin(Stdio::piped())
@@ -100,16 +109,16 @@ fn parcel() -> Vec<u8> {
 /// A crop full of small bull's-eyes, side by side: more candidates than 400 records hold.
 fn crowded() -> Vec<u8> {
     let (width, height) = (400, 300);
-    let mut words = vec![0; oracle::crop::image_words(width, height)];
+    let mut words = vec![0; crops::image_words(width, height)];
     for y in 0..height {
         for x in 0..width {
             let ring = (x % 12).abs_diff(6).max((y % 12).abs_diff(6));
             if ring % 2 == 1 && ring < 6 {
-                oracle::crop::set_pixel(&mut words, width, x, y);
+                crops::set_pixel(&mut words, width, x, y);
             }
         }
     }
-    oracle::crop::pack(&words, width, height)
+    crops::pack(&words, width, height)
 }
 
 /// A file of a generated image.
@@ -129,10 +138,10 @@ fn of_each_family(seeds: u64) -> Vec<(String, Vec<u8>)> {
 /// What the judge finds: its report, all words of 400 records, and its marks.
 fn judged(file: &[u8]) -> (oracle::Report, Vec<u32>, Vec<u64>) {
     let words = match oracle::crop::check_file(file) {
-        0 => oracle::crop::dimensions(file).map_or(0, |(w, h)| oracle::crop::image_words(w, h)),
+        0 => crops::dimensions(file).map_or(0, |(w, h)| crops::image_words(w, h)),
         _ => 0,
     };
-    let mut records = vec![0; 400 * oracle::RECORD_WORDS];
+    let mut records = vec![0; 400 * crops::RECORD_WORDS];
     let mut marks = vec![0; words];
     let report = oracle::second::search_file(file, &mut vec![0; words], &mut records, &mut marks);
     (report, records, marks)
@@ -140,8 +149,8 @@ fn judged(file: &[u8]) -> (oracle::Report, Vec<u32>, Vec<u64>) {
 
 /// Dimensions, and whether each pixel is black, row by row.
 fn pixels(file: &[u8]) -> (usize, usize, Vec<bool>) {
-    let (width, height) = oracle::crop::dimensions(file).expect("it has a header");
-    let row = oracle::crop::row_bytes(width);
+    let (width, height) = crops::dimensions(file).expect("it has a header");
+    let row = crops::row_bytes(width);
     let (width, height) = (width as usize, height as usize);
     let black = |i: usize| file[4 + i / width * row + i % width / 8] & 0x80 >> (i % width % 8) != 0;
     (width, height, (0..width * height).map(black).collect())

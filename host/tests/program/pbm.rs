@@ -1,11 +1,11 @@
-//! `host pbm`.
+//! `bullseye pbm`.
 use super::*;
 
 #[test]
 fn a_crop_as_p4() {
     let folder = Folder::new("pbm-p4");
     folder.write("parcel", &parcel());
-    let ran = folder.host(&["pbm", "parcel"]);
+    let ran = folder.bullseye(&["pbm", "parcel"]);
     assert_eq!((ran.code, ran.err.as_str()), (Some(0), ""));
     assert_eq!(ran.out, [b"P4\n184 190\n", &parcel()[4..]].concat());
 }
@@ -14,7 +14,7 @@ fn a_crop_as_p4() {
 fn a_crop_as_p1() {
     let folder = Folder::new("pbm-p1");
     folder.write("parcel", &parcel());
-    let ran = folder.host(&["pbm", "--plain", "parcel", "-o", "out"]);
+    let ran = folder.bullseye(&["pbm", "--plain", "parcel", "-o", "out"]);
     assert_eq!(
         (ran.code, ran.out.len(), ran.err.as_str()),
         (Some(0), 0, "")
@@ -32,8 +32,8 @@ fn a_refused_crop() {
     let folder = Folder::new("pbm-refused");
     let mut padded = white();
     padded[8] |= 1;
-    let ran = folder.host_reading(&["pbm", "-"], &padded);
-    let complaint = "host: -: refused: 5 a padding bit is 1\n";
+    let ran = folder.bullseye_reading(&["pbm", "-"], &padded);
+    let complaint = "bullseye: -: refused: 5 a padding bit is 1\n";
     assert_eq!((ran.code, ran.out.len()), (Some(1), 0));
     assert_eq!(ran.err, complaint);
 }

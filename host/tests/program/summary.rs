@@ -1,4 +1,4 @@
-//! `host summary`.
+//! `bullseye summary`.
 use super::*;
 
 /// The cells of the row with this label in the table with this title.
@@ -25,7 +25,7 @@ fn a_few_files() {
     folder.write("long", &[white(), vec![0]].concat());
     folder.write("crowded", &crowded());
     let files = ["parcel", "long", "white", "missing", "lost", "crowded"];
-    let ran = folder.host(&[&["summary"][..], &files].concat());
+    let ran = folder.bullseye(&[&["summary"][..], &files].concat());
     let text = ran.text();
     for (label, count) in [
         ("searched", "4"),
@@ -35,20 +35,24 @@ fn a_few_files() {
     ] {
         assert_eq!(cells(&text, "Files", label), [count]);
     }
-    assert_eq!(cells(&text, "Missed", "missed"), ["2", "1"]);
-    assert_eq!(cells(&text, "Missed", "of"), ["4", "2"]);
-    assert_eq!(cells(&text, "Missed", "share"), ["50.0 %", "50.0 %"]);
+    for label in ["crops whose first box has no turn", "boxes without a turn"] {
+        assert_eq!(cells(&text, "Missed", label), ["1", "2", "50.0 %"]);
+    }
+    let label = "searched crops without a box";
+    assert_eq!(cells(&text, "Missed", label), ["2", "4", "50.0 %"]);
     for (number, count) in (0..).zip(["2", "0", "0", "0", "1", "0", "0", "1", "1"]) {
-        let label = format!("{number} {}", host::meaning(number));
+        let label = format!("{number} {}", crops::meaning(number).expect("known"));
         assert_eq!(cells(&text, "Answer", &label), [count]);
     }
-    assert_eq!(cells(&text, "Outcome", "1 turned"), ["1"]);
-    assert_eq!(cells(&text, "Outcome", "2 lost centre"), ["1"]);
-    assert_eq!(cells(&text, "Class", "0"), ["0", "0", "1", "1"]);
-    assert_eq!(cells(&text, "Class", "2"), ["1", "0", "0", "1"]);
+    assert_eq!(cells(&text, "Outcome", "1 turned"), ["1", "1"]);
+    assert_eq!(cells(&text, "Outcome", "2 lost centre"), ["1", "1"]);
+    for title in ["Class of crops", "Class of boxes"] {
+        assert_eq!(cells(&text, title, "0"), ["0", "0", "1", "1"]);
+        assert_eq!(cells(&text, title, "2"), ["1", "0", "0", "1"]);
+    }
     let complaints = "\
-host: long: refused: 4 another length than the dimensions need
-host: missing: no such file
+bullseye: long: refused: 4 length does not match the dimensions
+bullseye: missing: no such file
 ";
     assert_eq!((ran.code, ran.err.as_str()), (Some(1), complaints));
 }
@@ -57,8 +61,14 @@ host: missing: no such file
 fn nothing_that_could_be_missed() {
     let folder = Folder::new("summary-none");
     folder.write("white", &white());
-    let ran = folder.host(&["summary", "white"]);
-    assert_eq!(cells(&ran.text(), "Missed", "share"), ["100.0 %", "-"]);
+    let ran = folder.bullseye(&["summary", "white"]);
+    let text = ran.text();
+    let label = "searched crops without a box";
+    assert_eq!(cells(&text, "Missed", label), ["1", "1", "100.0 %"]);
+    assert_eq!(
+        cells(&text, "Missed", "boxes without a turn"),
+        ["0", "0", "-"]
+    );
     assert_eq!((ran.code, ran.err.as_str()), (Some(0), ""));
 }
 
@@ -66,7 +76,7 @@ fn nothing_that_could_be_missed() {
 fn lines_end_under_their_columns() {
     let folder = Folder::new("summary-lines");
     folder.write("parcel", &parcel());
-    let text = folder.host(&["summary", "parcel"]).text();
+    let text = folder.bullseye(&["summary", "parcel"]).text();
     for table in text.split("\n\n") {
         let mut lengths = table.lines().map(|line| line.chars().count());
         let first = lengths.next();
@@ -74,35 +84,111 @@ fn lines_end_under_their_columns() {
     }
 }
 
+/// Counts by class and outcome's word.
+type Grid = [[usize; 3]; 4];
+
+fn numbers(cells: Vec<String>) -> Vec<usize> {
+    let number = |cell: String| cell.parse().expect("a number");
+    cells.into_iter().map(number).collect()
+}
+
+/// The grid that a summary shows, from the order of its columns: turned, no turn, lost centre.
+fn grid(text: &str, title: &str) -> Grid {
+    let row = |class: usize| {
+        let cells = numbers(cells(text, title, &class.to_string()));
+        let [turned, no_turn, lost, all] = cells[..] else {
+            panic!("{title} has four columns");
+        };
+        assert_eq!(turned + no_turn + lost, all);
+        [no_turn, turned, lost]
+    };
+    [row(0), row(1), row(2), row(3)]
+}
+
+/// How many have no turn, of how many.
+fn missed(grid: Grid) -> [usize; 2] {
+    let all: usize = grid.iter().flatten().sum();
+    [grid.iter().map(|row| row[0] + row[2]).sum(), all]
+}
+
 #[test]
 fn the_judges_counts() {
     let folder = Folder::new("summary-judge");
     let mut args = vec!["summary".to_owned()];
     let mut answers = [0; 9];
-    let mut boxes = [[0; 3]; 4];
+    let (mut crops, mut boxes) = (Grid::default(), Grid::default());
     for (name, file) in of_each_family(15) {
         folder.write(&name, &file);
         args.push(name);
         let (report, records, _) = judged(&file);
         answers[report.answer as usize] += 1;
-        for record in records.chunks_exact(40).take(report.kept as usize) {
-            boxes[record[39] as usize][record[26] as usize] += 1;
+        let kept = records.chunks_exact(40).take(report.kept as usize);
+        for (number, record) in kept.enumerate() {
+            let (class, outcome) = (record[39] as usize, record[26] as usize);
+            boxes[class][outcome] += 1;
+            crops[class][outcome] += usize::from(number == 0);
         }
     }
-    let ran = folder.host(&args);
-    let text = ran.text();
+    let text = folder.bullseye(&args).text();
     for (number, count) in (0..).zip(answers) {
-        let label = format!("{number} {}", host::meaning(number));
+        let label = format!("{number} {}", crops::meaning(number).expect("known"));
         assert_eq!(cells(&text, "Answer", &label), [count.to_string()]);
     }
-    for (class, [no_turn, turned, lost]) in boxes.into_iter().enumerate() {
-        let row = [turned, no_turn, lost, turned + no_turn + lost];
-        let row = row.map(|count: usize| count.to_string());
-        assert_eq!(cells(&text, "Class", &class.to_string()), row);
-        assert!(turned > 0, "class {class} does not occur");
+    assert_eq!(grid(&text, "Class of crops"), crops);
+    assert_eq!(grid(&text, "Class of boxes"), boxes);
+    assert!(crops.iter().all(|row| row[1] > 0), "each class occurs");
+    assert_ne!(crops, boxes);
+    for (label, expected) in [
+        ("crops whose first box has no turn", missed(crops)),
+        ("boxes without a turn", missed(boxes)),
+        (
+            "searched crops without a box",
+            [
+                answers[7] + answers[8],
+                answers[0] + answers[7] + answers[8],
+            ],
+        ),
+    ] {
+        let seen = &cells(&text, "Missed", label)[..2];
+        assert_eq!(seen, expected.map(|count| count.to_string()), "{label}");
     }
-    let turned: usize = boxes.iter().map(|row| row[1]).sum();
-    let all: usize = boxes.iter().flatten().sum();
-    let missed = [answers[7] + answers[8], all - turned].map(|count| count.to_string());
-    assert_eq!(cells(&text, "Missed", "missed"), missed);
+}
+
+/// The sum of a table's column.
+fn sum(text: &str, title: &str, column: usize) -> usize {
+    let table = text.split("\n\n").find(|table| table.starts_with(title));
+    let rows = table.expect("the table is there").lines().skip(1);
+    let cell = |row: &str| -> usize {
+        let cells: Vec<&str> = row[44..].split_whitespace().collect();
+        cells[column].parse().expect("a number")
+    };
+    rows.map(cell).sum()
+}
+
+#[test]
+fn totals_equal_the_inputs() {
+    let folder = Folder::new("summary-totals");
+    let mut args = vec!["summary".to_owned(), "missing".to_owned()];
+    let (mut with_box, mut boxes) = (0, 0);
+    let mut all = of_each_family(6);
+    all.extend((0..60).map(|seed| (format!("bad-{seed}"), oracle::generate::bad_file(seed))));
+    for (name, file) in all {
+        folder.write(&name, &file);
+        args.push(name);
+        let (report, _, _) = judged(&file);
+        boxes += report.kept as usize;
+        with_box += usize::from(report.kept > 0);
+    }
+    let text = folder.bullseye(&args).text();
+    let files = args.len() - 1;
+    assert_eq!(numbers(cells(&text, "Files", "all")), [files]);
+    // The row of all is in the sum too.
+    assert_eq!(sum(&text, "Files", 0), 2 * files);
+    assert_eq!(sum(&text, "Answer", 0), files - 1);
+    assert_eq!(
+        [0, 1].map(|column| sum(&text, "Outcome", column)),
+        [with_box, boxes]
+    );
+    assert_eq!(sum(&text, "Class of crops", 3), with_box);
+    assert_eq!(sum(&text, "Class of boxes", 3), boxes);
 }

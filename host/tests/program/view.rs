@@ -1,4 +1,4 @@
-//! `host view`.
+//! `bullseye view`.
 use super::*;
 
 /// The value of an attribute in an element.
@@ -82,9 +82,9 @@ fn compare(name: &str, file: &[u8], svg: &str) {
     assert_eq!(elements(svg, "line ").len(), turned, "{name}");
     assert_eq!(elements(svg, "circle").len(), kept.len(), "{name}");
     assert_eq!(elements(svg, "polygon").len(), kept.len(), "{name}");
-    let shapes = elements(svg, "circle")
-        .into_iter()
-        .zip(elements(svg, "polygon"));
+    // The best record is drawn last.
+    let circles = elements(svg, "circle").into_iter().rev();
+    let shapes = circles.zip(elements(svg, "polygon").into_iter().rev());
     for (rank, (record, (circle, polygon))) in (1..).zip(kept.into_iter().zip(shapes)) {
         compare_record(record, circle, polygon);
         let label = format!(">{rank}: {}, class {};", outcome(record), record[39]);
@@ -146,7 +146,7 @@ fn pictures_of_every_family() {
     crops.push(("white".into(), white()));
     for (name, file) in crops {
         folder.write(&name, &file);
-        let ran = folder.host(&["view", &name]);
+        let ran = folder.bullseye(&["view", &name]);
         assert_eq!((ran.code, ran.err.as_str()), (Some(0), ""), "{name}");
         compare(&name, &file, &ran.text());
         within(&ran.text());
@@ -158,7 +158,7 @@ fn pictures_of_every_family() {
 fn an_arrow_to_the_symbols_top() {
     let folder = Folder::new("view-arrow");
     folder.write("parcel", &parcel());
-    let ran = folder.host(&["view", "parcel", "-o", "svg"]);
+    let ran = folder.bullseye(&["view", "parcel", "-o", "svg"]);
     assert_eq!((ran.code, ran.out.len()), (Some(0), 0));
     let svg = String::from_utf8(folder.read("svg")).expect("it is text");
     let line = elements(&svg, "line ")[0];
@@ -170,7 +170,7 @@ fn an_arrow_to_the_symbols_top() {
 fn a_name_with_marks_of_its_own() {
     let folder = Folder::new("view-name");
     folder.write("a<b>&\"c\"\n.crop", &parcel());
-    let ran = folder.host(&["view", "a<b>&\"c\"\n.crop"]);
+    let ran = folder.bullseye(&["view", "a<b>&\"c\"\n.crop"]);
     let svg = ran.text();
     assert!(svg.contains("<title>a&lt;b&gt;&amp;&quot;c&quot;\u{fffd}.crop</title>"));
     compare("named", &parcel(), &svg);
@@ -179,8 +179,34 @@ fn a_name_with_marks_of_its_own() {
 #[test]
 fn a_refused_crop() {
     let folder = Folder::new("view-refused");
-    let ran = folder.host_reading(&["view", "-"], &[0x10, 0x20, 0x02, 0x10]);
-    let complaint = "host: -: refused: 2 width or height outside 33 to 2,048\n";
+    let ran = folder.bullseye_reading(&["view", "-"], &[0x10, 0x20, 0x02, 0x10]);
+    let complaint = "bullseye: -: refused: 2 width or height outside 33 to 2,048\n";
     assert_eq!((ran.code, ran.out.len()), (Some(1), 0));
     assert_eq!(ran.err, complaint);
+}
+
+#[test]
+fn a_redaction_and_what_it_takes_away() {
+    let folder = Folder::new("view-redacted");
+    folder.write("crop", &parcel());
+    for least in [&[][..], &["--least"]] {
+        let redact = [&["redact", "crop", "-o", "redacted"], least].concat();
+        assert_eq!(folder.bullseye(&redact).code, Some(0));
+        let view = [&["view", "--redacted", "crop"], least].concat();
+        let svg = folder.bullseye(&view).text();
+        well_formed(&svg);
+        let (width, height, before) = pixels(&parcel());
+        let (_, _, after) = pixels(&folder.read("redacted"));
+        let path = |class: &str| {
+            let found = elements(&svg, &format!("path class=\"{class}\""));
+            covered(value(found[0], "d"), width, height)
+        };
+        let gone = before.iter().zip(&after).map(|(old, new)| *old && !new);
+        assert_eq!(
+            (path("pixels"), path("gone")),
+            (after.clone(), gone.collect())
+        );
+        assert!(!svg.contains("class=\"read\""));
+    }
+    assert_eq!(folder.bullseye(&["view", "--least", "crop"]).code, Some(2));
 }

@@ -1,4 +1,4 @@
-//! Holds the Rust's own code and the second reading of document 01 against each other on generated crops.
+//! Holds the Rust's own code and the second reading of the rules against each other on generated crops.
 //!
 //! usage: compare [--seed S] [--count N]
 
@@ -73,7 +73,7 @@ mod both {
             second::check(&file),
             "seed {seed}: numbers of a file"
         );
-        let size = oracle::vectors::words_of(&file);
+        let size = crops::words_of(&file);
         let words = size + (seed % 5 == 1) as usize;
         let marks = size + (seed % 7 == 1) as usize;
         let [mut a, mut b] = [0; 2].map(|_| Lent::new(words, (seed % 90) as usize, marks));

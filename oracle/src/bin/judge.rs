@@ -38,7 +38,8 @@ mod judge {
 
 #[cfg(source)]
 mod judge {
-    use oracle::{RECORD_WORDS, crop, harness, lines};
+    use crops::{RECORD_WORDS, RECORDS};
+    use oracle::{harness, lines};
     use std::io::{Read, Write, stdin, stdout};
     use std::process::ExitCode;
 
@@ -58,13 +59,12 @@ mod judge {
     /// All that is printed for a file.
     fn printed(file: &[u8], full: bool) -> String {
         let length = match harness::check(file) {
-            0 => {
-                crop::dimensions(file).map_or(0, |(width, height)| crop::image_words(width, height))
-            }
+            0 => crops::dimensions(file)
+                .map_or(0, |(width, height)| crops::image_words(width, height)),
             _ => 0,
         };
         let (mut words, mut marks) = (vec![0; length], vec![0; length]);
-        let mut buffer = vec![0; RECORD_WORDS * lines::RECORDS];
+        let mut buffer = vec![0; RECORD_WORDS * RECORDS];
         let report = harness::search_file(file, &mut words, &mut buffer, &mut marks);
         let records = &buffer[..RECORD_WORDS * report.kept as usize];
         let mut text = lines::of_report(report, records);

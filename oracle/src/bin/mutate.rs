@@ -7,7 +7,7 @@ use std::path::{Path, PathBuf};
 use std::process::{Command, Stdio};
 use std::time::{Duration, Instant};
 
-/// A slip: its label, the text in src/second.rs (tests aside), which occurs once, and what stands there instead.
+/// A slip: its label, the text in the second reading (tests aside), which occurs once, and what stands there instead.
 struct Slip {
     label: String,
     old: String,
@@ -16,26 +16,39 @@ struct Slip {
 
 fn main() {
     let wanted: Vec<String> = std::env::args().skip(1).collect();
-    let second = fs::read_to_string("src/second.rs").expect("src/second.rs");
-    let second = second
-        .split("#[cfg(test)]")
-        .next()
-        .unwrap_or_default()
-        .to_string();
+    let second = second();
     let slips = slips(&fs::read_to_string("slips.txt").expect("slips.txt"));
+    build_crops();
     println!("| Slip | Vectors that notice it |\n|---|---|");
     let mut unseen = 0;
     for slip in slips
         .iter()
         .filter(|s| wanted.is_empty() || wanted.contains(&s.label))
     {
-        let times = second.matches(&slip.old).count();
+        let times = |(_, text): &Part| text.matches(&slip.old).count();
+        let times: usize = second.iter().map(times).sum();
         assert_eq!(times, 1, "{}: its text occurs {times} times", slip.label);
-        let verdict = tried(&slip.label, &second.replacen(&slip.old, &slip.new, 1));
+        let verdict = tried(slip, &second);
         unseen += (verdict == "0") as usize;
         println!("| {} | {verdict} |", slip.label);
     }
     println!("\n{} slips, {unseen} unnoticed", slips.len());
+}
+
+/// A file of the second reading: its name below src/, and its text.
+type Part = (String, String);
+
+/// The second reading without its tests.
+fn second() -> Vec<Part> {
+    let list = fs::read_dir("src/second").expect("src/second");
+    let name = |entry: std::io::Result<fs::DirEntry>| {
+        let name = entry.expect("a folder is listed").file_name();
+        format!("second/{}", name.to_string_lossy())
+    };
+    let rust = |name: &String| name.ends_with(".rs") && name != "second/tests.rs";
+    let names = list.map(name).filter(rust).chain(["second.rs".to_string()]);
+    let text = |name: &str| fs::read_to_string(Path::new("src").join(name)).expect("a file of src");
+    names.map(|name| (name.clone(), text(&name))).collect()
 }
 
 /// The slips of the text: a line `== LABEL`, then lines that start with `-` (old) and `+` (new).
@@ -64,14 +77,36 @@ fn slips(text: &str) -> Vec<Slip> {
     all
 }
 
+/// Builds the package `crops`, which each changed reading is linked with.
+fn build_crops() {
+    fs::create_dir_all("target/slips").expect("target/slips");
+    let status = Command::new("rustc")
+        .args([
+            "--edition",
+            "2024",
+            "--crate-type",
+            "rlib",
+            "--crate-name",
+            "crops",
+        ])
+        .args(["-o", "target/slips/libcrops.rlib", "../crops/src/lib.rs"])
+        .status()
+        .expect("rustc");
+    assert!(status.success(), "../crops does not build");
+}
+
 /// How many vectors notice the changed reading; one that panics or does not end is noticed too.
-fn tried(label: &str, second: &str) -> String {
+fn tried(slip: &Slip, second: &[Part]) -> String {
+    let label = &slip.label;
     let folder = PathBuf::from("target/slips").join(label.replace(' ', "_"));
-    fs::create_dir_all(&folder).unwrap();
-    fs::write(folder.join("second.rs"), second).unwrap();
+    fs::create_dir_all(folder.join("second")).unwrap();
+    for (name, text) in second {
+        fs::write(folder.join(name), text.replace(&slip.old, &slip.new)).unwrap();
+    }
     fs::write(folder.join("main.rs"), MAIN).unwrap();
     let built = Command::new("rustc")
-        .args(["--edition", "2024", "-O", "-A", "warnings", "-o"])
+        .args(["--edition", "2024", "-C", "opt-level=1", "-A", "warnings"])
+        .args(["--extern", "crops=target/slips/libcrops.rlib", "-o"])
         .arg(folder.join("main"))
         .arg(folder.join("main.rs"))
         .output()
@@ -112,9 +147,7 @@ fn outcome(folder: &Path) -> String {
 
 /// A program of the changed reading alone: it counts the vectors that notice.
 const MAIN: &str = r#"
-#[path = "../../../src/report.rs"]
-mod report;
-pub use report::{MOST_CANDIDATES, RECORD_WORDS, Report};
+pub use crops::Report;
 mod second;
 #[path = "../../../src/vectors.rs"]
 mod vectors;

@@ -40,9 +40,11 @@ mod choose {
     use std::collections::BTreeMap;
     use std::path::Path;
 
+    use crops::places::{CLASS, OUTCOME, ROTATION, SCALE};
+    use crops::words_of;
     use oracle::generate::{self, Coverage, Crop};
     use oracle::harness::{self, search_file};
-    use oracle::vectors::{Vector, words_of};
+    use oracle::vectors::Vector;
 
     /// How many crops of a family are kept beside the smallest for each row, and how many files for each refusal.
     const OF_A_FAMILY: usize = 16;
@@ -70,7 +72,7 @@ mod choose {
         coverage
     }
 
-    /// Document 01's sample.
+    /// The manual's sample, the smallest crop, all white.
     fn sample() -> Vec<Vector> {
         let mut file = vec![0x10, 0x21, 0x02, 0x10];
         file.resize(169, 0);
@@ -99,7 +101,7 @@ mod choose {
         (y == cy && along(x, cx)) || (x == cx && along(y, cy))
     }
 
-    /// Document 01's cases that are images, the four eyes of which none is kept, and more than 1,024 candidates.
+    /// The rules' examples that are images, the four eyes of which none is kept, and more than 1,024 candidates.
     fn near_pairs() -> Vec<Vector> {
         let row = |from: u32| {
             painted(33, 33, move |x, y| {
@@ -158,12 +160,18 @@ mod choose {
             (v.report.found > 0) as u32
         ));
         for record in v.records.chunks_exact(oracle::RECORD_WORDS) {
-            rows.push(format!("outcome {} scale {}", record[26], record[27]));
-            rows.push(format!("outcome {} class {}", record[26], record[39]));
+            rows.push(format!(
+                "outcome {} scale {}",
+                record[OUTCOME], record[SCALE]
+            ));
+            rows.push(format!(
+                "outcome {} class {}",
+                record[OUTCOME], record[CLASS]
+            ));
             rows.push(format!(
                 "outcome {} degree {}",
-                record[26],
-                f32::from_bits(record[28])
+                record[OUTCOME],
+                f32::from_bits(record[ROTATION])
             ));
         }
         rows

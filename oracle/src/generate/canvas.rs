@@ -1,13 +1,7 @@
 //! An image that is being drawn.
 
 use super::random::Random;
-
-/// The most words of an image.
-pub const MOST_WORDS: usize = 8000;
-
-pub fn row_words(width: u32) -> usize {
-    width.div_ceil(64) as usize
-}
+use crops::{MOST_WORDS, row_words};
 
 #[derive(Clone, Debug)]
 pub struct Canvas {

@@ -2,7 +2,7 @@
 
 use std::fmt::Write;
 
-const RECORD: usize = 40;
+use crops::{ANSWERS, CLASSES, Outcome, RECORD_WORDS, Record, known};
 
 /// Upper ends of the rows of the count tables.
 const ENDS: [u32; 8] = [0, 1, 2, 4, 8, 32, 1023, 1024];
@@ -10,13 +10,13 @@ const ENDS: [u32; 8] = [0, 1, 2, 4, 8, 32, 1023, 1024];
 /// Counts over all reports added.
 #[derive(Clone, Debug)]
 pub struct Coverage {
-    pub answers: [u64; 9],
-    pub outcomes: [u64; 3],
+    pub answers: [u64; ANSWERS.len()],
+    pub outcomes: [u64; Outcome::ALL.len()],
     /// Scales 1 to 5 of records with a turn, and of those with a lost centre.
     pub turned: [u64; 5],
     pub lost: [u64; 5],
     /// Classes of records with a turn.
-    pub classes: [u64; 4],
+    pub classes: [u64; CLASSES as usize],
     /// Turns of 0, 2, .. 348 degrees.
     pub degrees: [u64; 175],
     /// Turns by scale and degree.
@@ -39,11 +39,11 @@ fn row_of(count: u32) -> usize {
 impl Coverage {
     pub fn new() -> Self {
         Coverage {
-            answers: [0; 9],
-            outcomes: [0; 3],
+            answers: [0; ANSWERS.len()],
+            outcomes: [0; Outcome::ALL.len()],
             turned: [0; 5],
             lost: [0; 5],
-            classes: [0; 4],
+            classes: [0; CLASSES as usize],
             degrees: [0; 175],
             pairs: [[0; 175]; 5],
             none_kept: 0,
@@ -52,42 +52,35 @@ impl Coverage {
         }
     }
 
-    /// Count one report and the `kept` records at the head of `records`.
+    /// Counts one report and the `kept` records at the head of `records`; stops at a number that the tables do not have.
     pub fn add(&mut self, answer: u32, found: u32, kept: u32, records: &[u32]) {
-        if let Some(count) = self.answers.get_mut(answer as usize) {
-            *count += 1;
-        }
-        if !matches!(answer, 0 | 7 | 8) {
+        let refused = known(crops::answer(answer)).refused();
+        self.answers[answer as usize] += 1;
+        if refused {
             return;
         }
         self.found[row_of(found)] += 1;
         self.kept[row_of(kept)] += 1;
         self.none_kept += (answer == 8 && found > 0) as u64;
-        for record in records.chunks_exact(RECORD).take(kept as usize) {
-            self.add_record(record);
+        let (records, _) = records.as_chunks::<RECORD_WORDS>();
+        for record in &records[..kept as usize] {
+            self.add_record(&known(Record::of_words(record)));
         }
     }
 
-    fn add_record(&mut self, record: &[u32]) {
-        let (outcome, scale) = (record[26] as usize, record[27] as usize);
-        if let Some(count) = self.outcomes.get_mut(outcome) {
-            *count += 1;
-        }
-        if !(1..=5).contains(&scale) {
-            return;
-        }
-        match outcome {
-            1 => self.add_turn(scale, f32::from_bits(record[28]), record[39]),
-            2 => self.lost[scale - 1] += 1,
-            _ => (),
+    fn add_record(&mut self, record: &Record) {
+        self.outcomes[record.outcome.number() as usize] += 1;
+        match record.outcome {
+            Outcome::Turned => self.add_turn(record),
+            Outcome::LostCentre => self.lost[record.scale as usize - 1] += 1,
+            Outcome::NoTurn => (),
         }
     }
 
-    fn add_turn(&mut self, scale: usize, rotation: f32, class: u32) {
+    fn add_turn(&mut self, record: &Record) {
+        let (scale, rotation) = (record.scale as usize, record.rotation);
         self.turned[scale - 1] += 1;
-        if let Some(count) = self.classes.get_mut(class as usize) {
-            *count += 1;
-        }
+        self.classes[record.class as usize] += 1;
         let at = (rotation / 2.0) as usize;
         if at < 175 && rotation == 2.0 * at as f32 {
             self.degrees[at] += 1;

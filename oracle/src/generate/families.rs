@@ -1,9 +1,10 @@
 //! The families of images, each a function of the random stream.
 
-use super::canvas::{Canvas, MOST_WORDS, row_words};
+use super::canvas::Canvas;
 use super::draw::{Eye, Shape, Symbol};
 use super::random::Random;
 use super::{aim, painted};
+use crops::{MOST_WORDS, row_words};
 
 /// Image and record buffer length, where the family has one to suggest.
 pub type Made = (Canvas, Option<usize>);

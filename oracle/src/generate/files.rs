@@ -1,24 +1,12 @@
-//! Crop files: packing, and files that are damaged on purpose.
+//! Crop files that are damaged on purpose.
 
-use super::canvas::{Canvas, MOST_WORDS, row_words};
+use super::canvas::Canvas;
 use super::random::Random;
+use crops::{MOST_WORDS, pack};
 
 /// Header bytes of kind 1 with the given last bits.
 fn header(kind: u32, width: u32, height: u32, tail: u32) -> [u8; 4] {
     (kind << 28 | (width & 4095) << 16 | (height & 4095) << 4 | tail & 15).to_be_bytes()
-}
-
-/// The crop file of an image given as words.
-pub fn pack(width: u32, height: u32, words: &[u64]) -> Vec<u8> {
-    let (row, bytes) = (row_words(width), width.div_ceil(8) as usize);
-    let mut file = header(1, width, height, 0).to_vec();
-    for line in words.chunks_exact(row) {
-        for k in 0..bytes {
-            let byte = (line[k / 8] >> (8 * (k % 8))) as u8;
-            file.push(byte.reverse_bits());
-        }
-    }
-    file
 }
 
 /// A crop file, mostly one to be refused.
@@ -84,7 +72,7 @@ fn valid(random: &mut Random) -> Vec<u8> {
     };
     let mut canvas = Canvas::new(width, small_side(random));
     canvas.noise(random, 32768);
-    pack(canvas.width, canvas.height, &canvas.words)
+    pack(&canvas.words, canvas.width, canvas.height)
 }
 
 /// No whole header.
@@ -161,7 +149,7 @@ fn padding(random: &mut Random) -> Vec<u8> {
     let width = random.pick(&[33, 39, 41, 63, 65, 71, 127, 129]);
     let mut canvas = Canvas::new(width, random.between(33, 70));
     canvas.noise(random, 32768);
-    let mut file = pack(canvas.width, canvas.height, &canvas.words);
+    let mut file = pack(&canvas.words, canvas.width, canvas.height);
     let (row, spare) = ((width as usize).div_ceil(8), (8 - width % 8) as u32);
     for _ in 0..random.pick(&[1, 1, 1, 2, 5]) {
         let y = match random.below(4) {

@@ -1,18 +1,18 @@
 //! The entries: refusals, buffers, capacity, and that the log changes no result.
 
 use super::{check, plain, search_file, search_words};
-use crate::{RECORD_WORDS, Report, crop};
+use crate::{RECORD_WORDS, Report};
 
 /// Noise of the given density in 1/256.
 fn noise(width: u32, height: u32, density: u64, seed: u64) -> Vec<u64> {
-    let mut words = vec![0; crop::image_words(width, height)];
+    let mut words = vec![0; crops::image_words(width, height)];
     let mut state = seed;
     for (x, y) in (0..height).flat_map(|y| (0..width).map(move |x| (x, y))) {
         state = state
             .wrapping_mul(6364136223846793005)
             .wrapping_add(1442695040888963407);
         if state >> 56 < density {
-            crop::set_pixel(&mut words, width, x, y);
+            crops::set_pixel(&mut words, width, x, y);
         }
     }
     words
@@ -21,13 +21,13 @@ fn noise(width: u32, height: u32, density: u64, seed: u64) -> Vec<u64> {
 /// So many single-pixel crosses side by side in a row of their own.
 fn crosses(count: u32) -> (Vec<u64>, u32, u32) {
     let (width, height) = (33 + 16 * count, 40);
-    let mut words = vec![0; crop::image_words(width, height)];
+    let mut words = vec![0; crops::image_words(width, height)];
     for x in (0..count).map(|place| 20 + 16 * place) {
         for distance in [1, 3, 5] {
-            crop::set_pixel(&mut words, width, x - distance, 20);
-            crop::set_pixel(&mut words, width, x + distance, 20);
-            crop::set_pixel(&mut words, width, x, 20 - distance);
-            crop::set_pixel(&mut words, width, x, 20 + distance);
+            crops::set_pixel(&mut words, width, x - distance, 20);
+            crops::set_pixel(&mut words, width, x + distance, 20);
+            crops::set_pixel(&mut words, width, x, 20 - distance);
+            crops::set_pixel(&mut words, width, x, 20 + distance);
         }
     }
     (words, width, height)
@@ -44,7 +44,7 @@ fn refused(answer: u32) -> Report {
 #[test]
 fn refusals_change_no_buffer() {
     let words = noise(65, 40, 100, 1);
-    let file = crop::pack(&words, 65, 40);
+    let file = crops::pack(&words, 65, 40);
     let cases = [
         (&file[..3], 80, 40, 80, 1),
         (&file[..9], 80, 40, 80, 4),
@@ -137,7 +137,7 @@ fn entries_agree_on_noise() {
         assert_eq!((plain.answer, plain.found), (logged.answer, logged.found));
         assert_eq!((plain.kept, plain.marked), (logged.kept, 0));
         assert_eq!(other, records);
-        let file = crop::pack(&words, width, height);
+        let file = crops::pack(&words, width, height);
         let (mut unpacked, mut again) = (vec![3; words.len()], vec![3; words.len()]);
         let from_file = search_file(&file, &mut unpacked, &mut other, &mut again);
         assert_eq!((from_file, &other), (logged, &records));

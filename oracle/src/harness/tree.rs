@@ -108,12 +108,12 @@ pub fn search_file(
     if refusal != 0 {
         return refused(refusal);
     }
-    let (width, height) = crop::dimensions(file).unwrap_or_default();
-    let length = crop::image_words(width, height);
+    let (width, height) = crops::dimensions(file).unwrap_or_default();
+    let length = crops::image_words(width, height);
     if words.len() != length || marks.len() != length || capacity(records) == 0 {
         return refused(6);
     }
-    crop::unpack(file, words);
+    crops::unpack(file, words);
     maxicode::detector::search::search(words, width, height, records, marks)
 }
 

@@ -66,7 +66,7 @@ fn passes((tried, wrong): &mut (u64, u64), seed: u64) -> bool {
 fn expected(file: &[u8], endless: bool) -> String {
     let mut file = file.to_vec();
     if endless {
-        file.resize(file.len().max(host::LONGEST) + 1, 0);
+        file.resize(file.len().max(crops::LONGEST) + 1, 0);
     }
     lines::of_file(&file, JUDGE.unwrap_or(SECOND).file)
 }
@@ -103,6 +103,8 @@ fn fed_bytes(file: Vec<u8>) -> io::Result<String> {
         for byte in &file {
             ours.send(&[*byte])?;
         }
+        // An empty packet ends one read; the program makes sure of the end by another.
+        ours.send(&[])?;
         ours.send(&[]).map(|_| ())
     };
     printed(child, writer)

@@ -1,0 +1,150 @@
+//! What a summary counts, and its tables.
+use crate::{
+    layout::{Row, row, table},
+    run::Seen,
+};
+use crops::{ANSWERS, Answer, CLASSES, Outcome, Record};
+
+/// By class and outcome, the outcomes in the order of `Outcome::ALL`.
+#[derive(Default)]
+struct Grid([[usize; Outcome::ALL.len()]; CLASSES as usize]);
+
+impl Grid {
+    fn add(&mut self, record: &Record) {
+        let shown = Outcome::ALL.iter().position(|&o| o == record.outcome);
+        let outcome = shown.expect("every outcome is shown");
+        self.0[record.class as usize][outcome] += 1;
+    }
+
+    fn outcome(&self, at: usize) -> usize {
+        self.0.iter().map(|row| row[at]).sum()
+    }
+
+    fn all(&self) -> usize {
+        self.0.iter().flatten().sum()
+    }
+
+    fn without_turn(&self) -> usize {
+        (0..)
+            .zip(Outcome::ALL)
+            .filter(|&(_, outcome)| outcome != Outcome::Turned)
+            .map(|(at, _)| self.outcome(at))
+            .sum()
+    }
+
+    fn table(&self, title: &str, all: &str) -> String {
+        let rows: Vec<Row> = (0..)
+            .zip(&self.0)
+            .map(|(class, counts)| {
+                let sum = counts.iter().sum();
+                row(class, counts.iter().copied().chain([sum]))
+            })
+            .collect();
+        let outcomes = Outcome::ALL.map(Outcome::words);
+        let columns: Vec<&str> = outcomes.into_iter().chain([all]).collect();
+        table(title, &columns, &rows)
+    }
+}
+
+/// Files by answer; crops, by their first records, and boxes by class and outcome.
+#[derive(Default)]
+pub struct Counts {
+    unread: usize,
+    answers: [usize; ANSWERS.len()],
+    crops: Grid,
+    boxes: Grid,
+}
+
+impl Counts {
+    /// Counts a file, or one that could not be read.
+    pub fn add(&mut self, seen: &Result<Seen, String>) {
+        let Ok(seen) = seen else {
+            self.unread += 1;
+            return;
+        };
+        self.answers[seen.answer.number as usize] += 1;
+        if let Some(first) = seen.records.first() {
+            self.crops.add(first);
+        }
+        for record in &seen.records {
+            self.boxes.add(record);
+        }
+    }
+
+    pub fn tables(&self) -> String {
+        [
+            self.files(),
+            self.missed(),
+            self.answer(),
+            self.outcomes(),
+            self.crops.table("Class of crops", "all crops"),
+            self.boxes.table("Class of boxes", "all boxes"),
+        ]
+        .join("\n")
+    }
+
+    fn searched(&self) -> usize {
+        (ANSWERS.iter().zip(self.answers))
+            .filter(|(answer, _)| !answer.refused())
+            .map(|(_, count)| count)
+            .sum()
+    }
+
+    fn files(&self) -> String {
+        let read: usize = self.answers.iter().sum();
+        let counts = [
+            ("searched", self.searched()),
+            ("refused", read - self.searched()),
+            ("not read", self.unread),
+            ("all", read + self.unread),
+        ];
+        let rows = counts.map(|(label, count)| row(label, [count]));
+        table("Files", &["files"], &rows)
+    }
+
+    /// Both missed figures, the second by crops and by boxes.
+    fn missed(&self) -> String {
+        let (searched, crops, boxes) = (self.searched(), self.crops.all(), self.boxes.all());
+        let counts = [
+            ("searched crops without a box", searched - crops, searched),
+            (
+                "crops whose first box has no turn",
+                self.crops.without_turn(),
+                crops,
+            ),
+            ("boxes without a turn", self.boxes.without_turn(), boxes),
+        ];
+        let rows = counts.map(|(label, missed, all)| {
+            let cells = [missed.to_string(), all.to_string(), share(missed, all)];
+            row(label, cells)
+        });
+        table("Missed", &["missed", "of", "share"], &rows)
+    }
+
+    fn answer(&self) -> String {
+        let label = |answer: &Answer| format!("{} {}", answer.number, answer.meaning);
+        let rows: Vec<Row> = (ANSWERS.iter().zip(self.answers))
+            .map(|(answer, count)| row(label(answer), [count]))
+            .collect();
+        table("Answer", &["files"], &rows)
+    }
+
+    fn outcomes(&self) -> String {
+        let label = |outcome: Outcome| format!("{} {}", outcome.number(), outcome.words());
+        let rows: Vec<Row> = (0..)
+            .zip(Outcome::ALL)
+            .map(|(at, outcome)| {
+                let counts = [self.crops.outcome(at), self.boxes.outcome(at)];
+                row(label(outcome), counts)
+            })
+            .collect();
+        table("Outcome", &["crops", "boxes"], &rows)
+    }
+}
+
+fn share(missed: usize, all: usize) -> String {
+    match all {
+        0 => "-".into(),
+        _ => format!("{:.1} %", 100.0 * missed as f64 / all as f64),
+    }
+}

@@ -1,0 +1,83 @@
+//! A line of a table, by its columns.
+use super::{COLUMNS, FIELDS, RECORD};
+use crops::{Outcome, Point, Record, Report, class_of_word};
+use std::str::FromStr;
+
+/// A record with its number in the file.
+type Numbered = (usize, Record);
+
+/// A line: its file, and the report with a record, or why the file could not be read.
+pub struct Line {
+    pub name: Vec<u8>,
+    pub seen: Result<(Report, Option<Numbered>), String>,
+}
+
+impl Line {
+    /// The line of its fields, or in words what is wrong with it.
+    pub fn of(fields: Vec<Vec<u8>>) -> Result<Self, String> {
+        if fields.len() != COLUMNS.len() {
+            let (columns, all) = (fields.len(), COLUMNS.len());
+            return Err(format!("{columns} columns instead of {all}"));
+        }
+        let problem = &fields[COLUMNS.len() - 1];
+        let middle = &fields[1..COLUMNS.len() - 1];
+        if !problem.is_empty() {
+            let problem = String::from_utf8_lossy(problem).into_owned();
+            return match middle.iter().all(Vec::is_empty) {
+                true => Ok(Line {
+                    name: fields[0].clone(),
+                    seen: Err(problem),
+                }),
+                false => Err("a problem stands beside an answer".into()),
+            };
+        }
+        let report = Report {
+            answer: number(&fields, 1)?,
+            found: number(&fields, 2)?,
+            kept: number(&fields, 3)?,
+            marked: number(&fields, 4)?,
+        };
+        let record = match fields[RECORD..].iter().all(Vec::is_empty) {
+            true => None,
+            false => Some((number(&fields, RECORD)?, record(&fields)?)),
+        };
+        let name = fields.into_iter().next().unwrap_or_default();
+        Ok(Line {
+            name,
+            seen: Ok((report, record)),
+        })
+    }
+}
+
+/// The number in a column.
+fn number<T: FromStr>(fields: &[Vec<u8>], column: usize) -> Result<T, String> {
+    let text = String::from_utf8_lossy(&fields[column]);
+    text.parse()
+        .map_err(|_| format!("{} is no number: {text:?}", COLUMNS[column]))
+}
+
+/// The record that stands in a line's columns.
+fn record(fields: &[Vec<u8>]) -> Result<Record, String> {
+    const FIRST: usize = RECORD + 1;
+    const _: () = assert!(FIRST + FIELDS + 1 == COLUMNS.len());
+    let whole = |place: usize| number::<u32>(fields, FIRST + place);
+    let float = |place: usize| number::<f32>(fields, FIRST + place);
+    let corner = |place: usize| -> Result<Point, String> {
+        Ok(Point {
+            x: float(place)?,
+            y: float(place + 1)?,
+        })
+    };
+    Ok(Record {
+        x: whole(0)?,
+        y: whole(1)?,
+        radius: whole(2)?,
+        outcome: Outcome::of_word(whole(3)?).map_err(|unknown| unknown.to_string())?,
+        scale: whole(4)?,
+        rotation: float(5)?,
+        class: class_of_word(whole(6)?).map_err(|unknown| unknown.to_string())?,
+        variance: float(7)?,
+        centre: (whole(8)?, whole(9)?),
+        corners: [corner(10)?, corner(12)?, corner(14)?, corner(16)?],
+    })
+}

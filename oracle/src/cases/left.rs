@@ -1,0 +1,201 @@
+//! Left sides of cases: crops of every family, answer, outcome and class, small ones, and for each of them calls of every entry with
+//! lengths, kinds, dimensions and bits that are right and wrong.
+
+use std::collections::BTreeMap;
+
+use crops::cases::Stock;
+use crops::places::{CLASS, OUTCOME};
+use crops::{
+    HEADER_BYTES, LEAST_SIDE, RECORD_WORDS, dimensions, image_words, pack, set_pixel, words_of,
+};
+
+use crate::generate::{self, Random};
+use crate::second;
+
+/// Files of this many bytes or more are left out, but for those at the limits.
+const TOO_LONG: usize = 1_800;
+
+/// How many crops are taken of a family with one answer, outcome and class, and how many files of a refusal.
+const OF_A_ROW: usize = 3;
+const OF_A_REFUSAL: usize = 14;
+
+/// Calls beside the five that each crop has.
+const MORE: usize = 5;
+
+/// Lengths of a record buffer: none, one, several, the program's, and beyond what a search holds.
+const RECORDS: [usize; 12] = [
+    0, 39, 40, 41, 79, 80, 120, 481, 1480, 16_000, 40_960, 41_003,
+];
+
+/// Dimensions at the limits, and far beyond them.
+const SIDES: [u32; 13] = [0, 32, 33, 34, 63, 64, 65, 250, 251, 2048, 2049, 4096, !0];
+
+/// The first lines, for the reader.
+const HEADING: &str = "\
+# Calls of the entries and what is seen after them. `lefts` makes the left sides, `cases --write` the right sides (oracle/README.md).
+";
+
+/// The crops' text and the left sides' text, from this seed on.
+pub fn made(seed: u64, seeds: u64) -> (String, String) {
+    let (mut crops, mut lines) = (String::new(), HEADING.to_string());
+    let mut random = Random::new(seed);
+    for (file, id) in files(seed, seeds).iter().zip(1..) {
+        crops += &Stock::line(&id.to_string(), file);
+        for call in calls(&mut random, id, file) {
+            lines += &(call + "\n");
+        }
+    }
+    (crops, lines)
+}
+
+fn files(seed: u64, seeds: u64) -> Vec<Vec<u8>> {
+    let mut files = vec![pack(&[0; 33], LEAST_SIDE, LEAST_SIDE)];
+    files.extend(limits());
+    files.extend(refused(seed, seeds));
+    files.extend(searched(seed, seeds));
+    files
+}
+
+/// A crop whose black pixels are those where `black` holds.
+fn painted(width: u32, height: u32, black: impl Fn(u32, u32) -> bool) -> Vec<u8> {
+    let mut words = vec![0; image_words(width, height)];
+    for (x, y) in (0..height).flat_map(|y| (0..width).map(move |x| (x, y))) {
+        if black(x, y) {
+            set_pixel(&mut words, width, x, y);
+        }
+    }
+    pack(&words, width, height)
+}
+
+/// More candidates than a search holds, the longest sides, the most words, and headers of one more.
+fn limits() -> Vec<Vec<u8>> {
+    let eye = |x: u32, y: u32| {
+        let along = |a: u32, b: u32| a.abs_diff(b) <= 5 && a.abs_diff(b) % 2 == 1;
+        (y == 20 && along(x, 20)) || (x == 20 && along(y, 20))
+    };
+    vec![
+        painted(200, 220, |x, y| (x + y) % 2 == 0),
+        painted(2048, 40, eye),
+        painted(40, 2048, eye),
+        painted(512, 1000, eye),
+        painted(576, 889, |_, _| false)[..HEADER_BYTES].to_vec(),
+        painted(2048, 251, |_, _| false)[..HEADER_BYTES].to_vec(),
+        painted(2049, 33, |_, _| false)[..HEADER_BYTES].to_vec(),
+    ]
+}
+
+/// Damaged files, some for each number.
+fn refused(seed: u64, seeds: u64) -> Vec<Vec<u8>> {
+    let mut taken: BTreeMap<u32, usize> = BTreeMap::new();
+    let mut files = Vec::new();
+    for file in (seed..seed + seeds).map(generate::bad_file) {
+        let count = taken.entry(second::check(&file)).or_default();
+        if file.len() < TOO_LONG && *count < OF_A_REFUSAL {
+            *count += 1;
+            files.push(file);
+        }
+    }
+    files
+}
+
+/// Crops that are searched, some for each family, answer, outcome and class.
+fn searched(seed: u64, seeds: u64) -> Vec<Vec<u8>> {
+    let mut taken: BTreeMap<_, usize> = BTreeMap::new();
+    let mut files = Vec::new();
+    for crop in (seed..seed + seeds).map(generate::crop) {
+        let file = crop.file();
+        if file.len() >= TOO_LONG {
+            continue;
+        }
+        let mut marks = vec![0; crop.words.len()];
+        let mut records = vec![0; RECORD_WORDS * 12];
+        let (width, height) = (crop.width, crop.height);
+        let report = second::search_words(&crop.words, width, height, &mut records, &mut marks);
+        let row = (crop.family, report.answer, records[OUTCOME], records[CLASS]);
+        let count = taken.entry(row).or_default();
+        if *count < OF_A_ROW {
+            *count += 1;
+            files.push(file);
+        }
+    }
+    files
+}
+
+/// The calls of a crop: one of each entry, then some in which one thing is changed.
+fn calls(random: &mut Random, id: usize, file: &[u8]) -> Vec<String> {
+    let n = words_of(file);
+    let mut calls = vec![
+        format!("host file={id}"),
+        format!("program file={id}"),
+        format!("unpack file={id} unpack={n}"),
+        format!("search file={id} unpack={n} marks={n} records=480"),
+    ];
+    if file.len() < HEADER_BYTES {
+        return calls;
+    }
+    calls.push(format!("search words={id} marks={n} records=16000"));
+    for _ in 0..MORE {
+        calls.push(match random.one_in(2) {
+            true => file_call(random, id, n),
+            false => words_call(random, id, file),
+        });
+    }
+    calls
+}
+
+/// The right length, or one that is wrong.
+fn length(random: &mut Random, n: usize) -> usize {
+    random.pick(&[n, n, n, n.saturating_sub(1), n + 1, 2 * n, 0])
+}
+
+fn file_call(random: &mut Random, id: usize, n: usize) -> String {
+    let kind = match random.below(3) {
+        0 => format!(" kind={}", random.below(16)),
+        1 => " kind=2".to_string(),
+        _ => String::new(),
+    };
+    let [unpack, marks] = [(); 2].map(|()| length(random, n));
+    let records = random.pick(&RECORDS);
+    match random.below(6) {
+        0 => format!("host file={id}{kind}"),
+        1 => format!("program file={id}{kind}"),
+        2 => format!("unpack file={id} unpack={unpack}{kind}"),
+        3 => format!("search file={id} unpack={n} marks={n} records={records}"),
+        _ => format!("search file={id} unpack={unpack} marks={marks} records={records}{kind}"),
+    }
+}
+
+fn words_call(random: &mut Random, id: usize, file: &[u8]) -> String {
+    let n = words_of(file);
+    let marks = length(random, n);
+    let records = random.pick(&RECORDS);
+    match random.below(6) {
+        0 => format!(
+            "search words={id} size={} marks={n} records={records}",
+            size(random, file)
+        ),
+        1 => {
+            let cut = length(random, n);
+            format!("search words={id} cut={cut} marks={cut} records={records}")
+        }
+        2 | 3 if n > 0 => {
+            let bit = random.below(64 * n as u32);
+            format!("search words={id} flip={bit} marks={n} records={records}")
+        }
+        _ => format!("search words={id} marks={marks} records={records}"),
+    }
+}
+
+/// Dimensions at the limits, or others that need as many words.
+fn size(random: &mut Random, file: &[u8]) -> String {
+    match dimensions(file) {
+        Some((width, height)) if width > 64 && random.one_in(2) => {
+            let row = width.div_ceil(64);
+            format!("{}x{height}", 64 * row - random.below(64))
+        }
+        Some((_, height)) if random.one_in(2) => {
+            format!("{}x{height}", LEAST_SIDE + random.below(32))
+        }
+        _ => format!("{}x{}", random.pick(&SIDES), random.pick(&SIDES)),
+    }
+}

@@ -1,0 +1,6 @@
+//! The rules' near pairs and the edges of each step.
+
+mod canvas;
+mod entries;
+mod steps;
+mod turns;
