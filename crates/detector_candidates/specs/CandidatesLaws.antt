@@ -57,13 +57,13 @@ row-more shape capacity (suc n) row column circles =
 
 module _ (shape : Shape) (capacity : ℕ) where
   -- what the sweep gives
-  abbrev Candidates : List Record → Type 0
-  Candidates circles = Each (Candidate shape) circles × (length circles ≤ capacity + 1)
+  abbrev SweptCandidates : List Record → Type 0
+  SweptCandidates circles = Each (Candidate shape) circles × (length circles ≤ capacity + 1)
 
   -- after a search
   step-fit : {row column : ℕ} (s : Searched) (now : List Record) (rest : Reads (List Record)) → Searchable shape row column → FitSearch shape column s
-      → Candidates now → (Searchable shape row (s .column) → length now ≤ capacity → Always Candidates rest)
-      → Always Candidates (cond (s .ended || ltb capacity (length now)) (done now) rest)
+      → SweptCandidates now → (Searchable shape row (s .column) → length now ≤ capacity → Always SweptCandidates rest)
+      → Always SweptCandidates (cond (s .ended || ltb capacity (length now)) (done now) rest)
   step-fit s now rest at fits held goes =
       always-cond (s .ended || ltb capacity (length now))
       (λ _. always-done held)
@@ -71,15 +71,15 @@ module _ (shape : Shape) (capacity : ℕ) where
 
   -- the candidates after a search
   now-fit : {column : ℕ} (s : Searched) (circles : List Record) → FitSearch shape column s → Each (Candidate shape) circles → length circles ≤ capacity
-      → Candidates (after circles s)
+      → SweptCandidates (after circles s)
   now-fit s circles fits each few = go (s .passed) refl
     where
-      go : (b : Bool) → s .passed ≡ b → Candidates (cond b (circles ++ s .candidate ∷ []) circles)
+      go : (b : Bool) → s .passed ≡ b → SweptCandidates (cond b (circles ++ s .candidate ∷ []) circles)
       go true e = (each-append (Candidate shape) circles (s .candidate) each (fits .fit e), simp length-append (omega arith))
       go false e = (each, omega arith)
 
   row-fit : (n row column : ℕ) (circles : List Record) → Limits shape → Searchable shape row column
-      → Each (Candidate shape) circles → length circles ≤ capacity → Always Candidates (rowFrom shape capacity n row column circles)
+      → Each (Candidate shape) circles → length circles ≤ capacity → Always SweptCandidates (rowFrom shape capacity n row column circles)
   unfolding rowBy
   row-fit zero row column circles limits at each few = always-done (each, omega arith)
   row-fit (suc n) row column circles limits at each few =
@@ -88,7 +88,7 @@ module _ (shape : Shape) (capacity : ℕ) where
       step-fit s _ _ at fits held (λ next short. row-fit n row (s .column) _ limits next (held .0) short)
 
   rows-fit : (n row : ℕ) (circles : List Record) → Limits shape → Each (Candidate shape) circles → length circles ≤ capacity
-      → Always Candidates (rowsFrom shape capacity n row circles)
+      → Always SweptCandidates (rowsFrom shape capacity n row circles)
   unfolding rowsBy
   rows-fit zero row circles limits each few = always-done (each, omega arith)
   rows-fit (suc n) row circles limits each few =

@@ -61,17 +61,27 @@ less-requires c κs = search needs
 
 returns : tie.Need-returns
 returns c =
-    let many = c .before .before .before .before .before .before .before .before .before .before .before .before .pre .0 in
-    cons (over _ _ _ many 0 (omega arith) (c .before .before .before .before .before .before .before .before .before .before .before .run-before .ensures))
-    (cons (over _ _ _ many 1 (omega arith) (c .before .before .before .before .before .before .before .before .before .before .run-before2 .ensures))
-    (cons (over _ _ _ many 2 (omega arith) (c .before .before .before .before .before .before .before .before .before .run-before3 .ensures))
-    (cons (over _ _ _ many 3 (omega arith) (c .before .before .before .before .before .before .before .before .run-before4 .ensures))
-    (cons (over _ _ _ many 4 (omega arith) (c .before .before .before .before .before .before .before .run-before5 .ensures))
-    (cons (over _ _ _ many 5 (omega arith) (c .before .before .before .before .before .before .run-before6 .ensures))
-    (cons (over _ _ _ many 6 (omega arith) (c .before .before .before .before .before .run-before7 .ensures))
-    (cons (over _ _ _ many 7 (omega arith) (c .before .before .before .before .run-before8 .ensures))
-    (cons (over _ _ _ many 8 (omega arith) (c .before .before .before .run-before9 .ensures))
-    (cons (over _ _ _ many 9 (omega arith) (c .before .before .run-before10 .ensures))
+    let tenth = c .before .before in
+    let ninth = tenth .before in
+    let eighth = ninth .before in
+    let seventh = eighth .before in
+    let sixth = seventh .before in
+    let fifth = sixth .before in
+    let fourth = fifth .before in
+    let third = fourth .before in
+    let second = third .before in
+    let first = second .before in
+    let many = first .before .pre .0 in
+    cons (over _ _ _ many 0 (omega arith) (first .run-before .ensures))
+    (cons (over _ _ _ many 1 (omega arith) (second .run-before2 .ensures))
+    (cons (over _ _ _ many 2 (omega arith) (third .run-before3 .ensures))
+    (cons (over _ _ _ many 3 (omega arith) (fourth .run-before4 .ensures))
+    (cons (over _ _ _ many 4 (omega arith) (fifth .run-before5 .ensures))
+    (cons (over _ _ _ many 5 (omega arith) (sixth .run-before6 .ensures))
+    (cons (over _ _ _ many 6 (omega arith) (seventh .run-before7 .ensures))
+    (cons (over _ _ _ many 7 (omega arith) (eighth .run-before8 .ensures))
+    (cons (over _ _ _ many 8 (omega arith) (ninth .run-before9 .ensures))
+    (cons (over _ _ _ many 9 (omega arith) (tenth .run-before10 .ensures))
     (cons (last _ _ _ many (c .less .ensures)) refl))))))))))
 
 pub buckets-of-spec : {M : Type 1} → statement M
