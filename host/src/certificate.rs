@@ -1,8 +1,13 @@
-//! A certificate as text: a blanked crop, its run, and the theorems that make the run the deleted crop's too. Lines that begin with
-//! # are for the reader; all others are data.
+//! A certificate as text: a blanked crop, its run, and the theorems that make the run the deleted crop's too; or a redacted crop and
+//! its run. Lines that begin with # are for the reader; all others are data.
+mod kind;
+
+pub use kind::Kind;
+
 use crate::{
     image::Image,
     kept::{self, Kept, MARGIN},
+    redacting::black_pixels,
     run::Run,
 };
 use crops::{FIELDS, Field, HEADER_BYTES, RECORD_WORDS, RECORDS, Report, Unit};
@@ -14,34 +19,12 @@ const FORMAT: &str = "1";
 /// The program with its version.
 pub const PRODUCT: &str = concat!("bullseye ", env!("CARGO_PKG_VERSION"));
 
-/// What precedes the rows of the crop, and of its kept pixels.
-const CROP: &str = "blanked crop, in hexadecimal, its header and then a row to a line, 1 is black:";
+/// What precedes the rows of the kept pixels.
 const KEPT: &str = "kept pixels, in the same way, 1 is kept:";
 const END: &str = "end";
 
 /// Longer than any certificate: two crops of 64,004 bytes and 16,000 record words.
 pub const LONGEST: usize = 4 << 20;
-
-/// What the certificate is worth. Each theorem and contract stands with its file, as docs/PROMISES.md has it.
-const WORTH: &str = "\
-# What this proves
-# A theorem: every crop of this size that is not refused and has the colours below at the kept pixels, searched with such records lent,
-# gives this run, whatever its other pixels are: the same answer and counts, the same word at each place of 400 records, and the same
-# marks. It is proved for all such crops, not tried on some. The deleted crop is one of them: its own search marked the kept pixels, and
-# only others were made white.
-# By these theorems, which `rt ci` proves:
-#   `runs-agree` (crates/detector/specs/Demand3.antt): two accepted runs over crops of one size, with equal records lent, that agree at
-#     every bit marked by the first are one
-#   `marked-when-steps-read` (crates/detector/specs/Demand3.antt): a bit is marked exactly when the steps of the search read it
-#   `file-run` (crates/detector/specs/Demand3.antt), `words-run` (crates/detector/specs/Demand3.antt): each search of a crop file, or of
-#     an image in words, that is not refused is such a run
-# And by the equations of the entries, for every input:
-#   `maxicode_search_file` (crates/tunnel/src/lib.rt): its report, records and marks are `fileRun` (crates/detector/specs/Detector.antt)
-#   `maxicode_search_words` (crates/tunnel/src/lib.rt): the same of words, `wordsRun` (crates/detector/specs/Detector.antt)
-# Not part of the theorem: that the deleted crop had these colours at the kept pixels, for which whoever blanked it answers; the
-# program that wrote this text; the prover and the compiler's back end (docs/PROMISES.md, What is assumed).
-# Kept pixels can still be seen: a row kept from side to side shows whatever stood in it.
-";
 
 /// What a certificate is made of, besides what a search of its crop gives.
 pub struct Certificate {
@@ -49,12 +32,13 @@ pub struct Certificate {
     pub product: String,
     /// The file that the crop came from.
     pub name: String,
-    /// The blanked crop.
+    pub kind: Kind,
+    /// The blanked or redacted crop.
     pub file: Vec<u8>,
 }
 
-/// The text of a blanked crop and its run.
-pub fn text(product: &str, name: &str, image: &Image, run: &Run) -> String {
+/// The text of a crop of this kind and its run. What was read is no part of a redaction.
+pub fn text(kind: Kind, (product, name): (&str, &str), image: &Image, run: &Run) -> String {
     let Report {
         answer,
         found,
@@ -62,24 +46,40 @@ pub fn text(product: &str, name: &str, image: &Image, run: &Run) -> String {
         marked,
     } = run.seen.report;
     let meaning = run.seen.answer.meaning;
+    let (about, marked, map) = match kind {
+        Kind::Blanked => (
+            sizes(image, run),
+            format!("marked: {marked}\n"),
+            format!("{KEPT}\n{}", rows(&kept::map(image, run))),
+        ),
+        Kind::Redacted => (
+            format!("{}black pixels: {}\n", size(image), black_pixels(image)),
+            String::new(),
+            String::new(),
+        ),
+    };
     format!(
-        "{TITLE}{FORMAT}\nproduct: {product}\nname: {name}\nkind: blanked\n{WORTH}{}\
-answer: {answer} {meaning}\nfound: {found}\nkept: {kept}\nmarked: {marked}\n{}{CROP}\n{}{KEPT}\n{}{END}\n",
-        sizes(image, run),
+        "{TITLE}{FORMAT}\nproduct: {product}\nname: {name}\nkind: {}\n{}{about}\
+answer: {answer} {meaning}\nfound: {found}\nkept: {kept}\n{marked}{}{}\n{}{map}{END}\n",
+        kind.word(),
+        kind.worth(),
         records(run),
+        kind.crop(),
         rows(image),
-        rows(&kept::map(image, run)),
     )
+}
+
+fn size(image: &Image) -> String {
+    format!("size: {} by {} pixels\n", image.width, image.height)
 }
 
 /// The size of the crop, and how much of it is kept.
 fn sizes(image: &Image, run: &Run) -> String {
     let kept = Kept::of(image, run);
     format!(
-        "size: {} by {} pixels\nkept pixels: {} of {}\nrows kept from side to side, but for {MARGIN} pixels at each: {} of {}\n\
+        "{}kept pixels: {} of {}\nrows kept from side to side, but for {MARGIN} pixels at each: {} of {}\n\
 marked bits that fill up rows: {}\n",
-        image.width,
-        image.height,
+        size(image),
         kept.pixels,
         kept.of_pixels,
         kept.rows,
@@ -147,12 +147,14 @@ pub fn parse(bytes: &[u8]) -> Result<Certificate, String> {
     }
     let product = value(lines.next(), "product")?;
     let name = value(lines.next(), "name")?;
+    let kind = value(lines.next(), "kind")?;
+    let kind = Kind::of_word(&kind).ok_or(format!("its kind is {kind}, which is not known"))?;
     if text.lines().last() != Some(END) {
         return Err(format!("it does not end with the line `{END}`"));
     }
-    let rows = lines.skip_while(|&line| line != CROP).skip(1);
+    let rows = lines.skip_while(|&line| line != kind.crop()).skip(1);
     let file = rows
-        .take_while(|&line| line != KEPT)
+        .take_while(|&line| line != KEPT && line != END)
         .map(bytes_of)
         .collect::<Option<Vec<_>>>()
         .ok_or("a row of its crop is not in hexadecimal")?
@@ -162,6 +164,7 @@ pub fn parse(bytes: &[u8]) -> Result<Certificate, String> {
         false => Ok(Certificate {
             product,
             name,
+            kind,
             file,
         }),
     }

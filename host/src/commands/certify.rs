@@ -1,13 +1,15 @@
-//! `bullseye certify`: a blanked crop with its run and the theorems that make it the deleted crop's, in one text.
+//! `bullseye certify`: a blanked crop with its run and the theorems that make it the deleted crop's, in one text; or a redacted one.
 use super::{Command, Searched};
 use crate::{
-    arguments,
+    arguments::{self, Arguments},
     blanking::blanked,
-    certificate::{self, Certificate, Difference, PRODUCT},
+    certificate::{self, Certificate, Difference, Kind, PRODUCT},
     files,
     image::Image,
     output::{Problem, deliver, failed, of_file, print},
+    redacting::redaction,
 };
+use bullseye::redact::Extent;
 use std::{
     ffi::{OsStr, OsString},
     path::Path,
@@ -15,15 +17,19 @@ use std::{
 
 pub const COMMAND: Command = Command {
     name: "certify",
-    what: "a blanked crop with its run and what proves it, as a text; or the check of one",
+    what: "a blanked crop with its run and what proves it, as a text; or a redacted one; or the check of either",
     help: "\
 Usage: bullseye certify CROP [-o FILE]
+       bullseye certify --redacted [--least] CROP [-o FILE]
        bullseye certify --check FILE
 
 Searches the crop, makes every pixel white that the search did not read, searches again, and writes a certificate when both agree: a
 text with the blanked crop, its answer, counts and records, which pixels are kept, of how many, how many rows are kept from side to
 side, the product's version, and the theorems that make it a proof. It says what it is worth: every crop that agrees at the kept
 pixels gives this run, the deleted one among them.
+
+--redacted writes the certificate of the crop as `bullseye redact` (with --least, `redact --least`) makes it: that crop, its answer,
+counts and records. It is no theorem about the deleted crop, and says so: two runs of the proved search agree.
 
 --check searches the certificate's crop again and says whether every line agrees. Of a certificate that another version wrote, lines
 that begin with # are not compared.
@@ -40,35 +46,59 @@ Example: bullseye certify examples/parcel.crop -o parcel.txt
 };
 
 fn run(args: &[OsString]) -> Result<bool, Problem> {
-    let (path, options) = arguments::one(args, &["-o", "--check"])?;
-    match (options.check, options.output) {
-        (true, Some(_)) => Err(Problem::Usage("--check writes no file for -o".into())),
-        (true, None) => check(&path),
-        (false, output) => write(&path, output.as_deref()),
+    let (path, options) = arguments::one(args, &["-o", "--check", "--redacted", "--least"])?;
+    let usage = |text: &str| Err(Problem::Usage(text.into()));
+    match &options {
+        Arguments { check: true, .. } if options.output.is_some() => {
+            usage("--check writes no file for -o")
+        }
+        Arguments { check: true, .. } if options.redacted || options.least => {
+            usage("--check reads the kind from FILE")
+        }
+        Arguments { check: true, .. } => check(&path),
+        _ if options.least && !options.redacted => usage("--least stands with --redacted"),
+        _ => write(&path, &options),
     }
 }
 
-/// Blanks a crop and writes its certificate.
-fn write(path: &OsStr, output: Option<&OsStr>) -> Result<bool, Problem> {
+/// Blanks or redacts a crop and writes its certificate.
+fn write(path: &OsStr, options: &Arguments) -> Result<bool, Problem> {
     let name = one_line(&Path::new(path).display().to_string());
-    let text = certificate(path, PRODUCT, &name, Searched::of(path)?)?;
-    deliver(text.as_bytes(), output)?;
+    let crop = Searched::of(path)?;
+    let text = match options.redacted {
+        true => redacted(path, &name, &crop, options.extent())?,
+        false => certificate(path, (PRODUCT, &name), crop)?,
+    };
+    deliver(text.as_bytes(), options.output.as_deref())?;
     Ok(true)
 }
 
-/// The certificate of a crop that was searched; there is none when a search of the blanked one differs.
+/// The certificate of a crop that is to be blanked; there is none when a search of the blanked one differs.
 fn certificate(
     path: &OsStr,
-    product: &str,
-    name: &str,
+    written: (&str, &str),
     Searched { image, run }: Searched,
 ) -> Result<String, Problem> {
     let failed = |reason: &str| Problem::Failed(of_file(path, reason));
     let done = blanked(image, &run).map_err(|unknown| failed(&unknown.to_string()))?;
     match (done.difference, Image::of_file(&done.file)) {
-        (None, Ok(image)) => Ok(certificate::text(product, name, &image, &run)),
+        (None, Ok(image)) => Ok(certificate::text(Kind::Blanked, written, &image, &run)),
         (Some(what), _) => Err(failed(&format!("the searches differ in {what}"))),
         (None, Err(refusal)) => Err(failed(&refusal)),
+    }
+}
+
+/// The certificate of a crop that is to be redacted; there is none when a search of the redacted one differs.
+fn redacted(path: &OsStr, name: &str, crop: &Searched, extent: Extent) -> Result<String, Problem> {
+    let failed = |reason: &str| Problem::Failed(of_file(path, reason));
+    let done = redaction(crop, extent).map_err(|unknown| failed(&unknown.to_string()))?;
+    match done.difference {
+        None => {
+            let Searched { image, run } = Searched::of_bytes(path, &done.file)?;
+            let written = (PRODUCT, name);
+            Ok(certificate::text(Kind::Redacted, written, &image, &run))
+        }
+        Some(what) => Err(failed(&format!("the searches differ in {what}"))),
     }
 }
 
@@ -84,11 +114,16 @@ fn check(path: &OsStr) -> Result<bool, Problem> {
     let Certificate {
         product,
         name,
+        kind,
         file,
     } = certificate::parse(&bytes)
         .map_err(|reason| Problem::Trouble(of_file(path, &format!("no certificate: {reason}"))))?;
     let searched = Searched::of_bytes(path, &file)?;
-    let given = certificate(path, &product, &name, searched)?;
+    let written = (product.as_str(), name.as_str());
+    let given = match kind {
+        Kind::Blanked => certificate(path, written, searched)?,
+        Kind::Redacted => certificate::text(kind, written, &searched.image, &searched.run),
+    };
     let said = String::from_utf8_lossy(&bytes);
     let difference = certificate::difference(&said, &given, product == PRODUCT);
     let verdict = difference.as_ref().map_or("all agree".into(), words);

@@ -164,7 +164,6 @@ fn what_was_changed_is_named() {
         ("  CLASS: 2\n", "  CLASS: 1\n", "it says `  CLASS: 1`"),
         (" (11.763717)", "", "it says `  VARIANCE: 413c382f`"),
         ("of 34960\n", "of 34961\n", "`kept pixels: 16538 of 34961`"),
-        ("kind: blanked\n", "kind: whole\n", "line 4: "),
         ("A theorem: every", "A theorem: each", "differs in 1 line,"),
         (
             "\nend\n",
@@ -176,6 +175,19 @@ fn what_was_changed_is_named() {
         let (code, text) = changed("certify-changed", |text| text.replacen(old, new, 1));
         assert_eq!(code, Some(1), "{text}");
         assert!(text.starts_with("c: differs in "), "{text}");
+        assert!(text.contains(said), "{text}");
+    }
+}
+
+/// A kind that is not known, or that of another crop, makes it no certificate.
+#[test]
+fn another_kind() {
+    for (kind, said) in [("whole", "its kind is whole"), ("redacted", "no crop")] {
+        let kind = format!("kind: {kind}\n");
+        let (code, text) = changed("certify-kind", |text| {
+            text.replacen("kind: blanked\n", &kind, 1)
+        });
+        assert_eq!(code, Some(2), "{text}");
         assert!(text.contains(said), "{text}");
     }
 }
@@ -293,4 +305,47 @@ fn a_name_with_a_line_of_its_own() {
     let folder = Folder::new("certify-name");
     let text = certified(&folder, "a\nend\n.crop", &parcel());
     assert_eq!(value(&text, "name"), "a\u{fffd}end\u{fffd}.crop");
+}
+
+/// A redacted crop's certificate has that crop, the results of the crop itself, and says that it is no theorem.
+#[test]
+fn certificates_of_redacted_crops() {
+    let folder = Folder::new("certify-redacted");
+    let mut files = of_each_family(1);
+    files.push(("parcel".into(), parcel()));
+    for (name, file) in files {
+        folder.write(&name, &file);
+        let ran = folder.bullseye(&["certify", "--redacted", &name, "-o", "certificate"]);
+        assert_eq!((ran.code, ran.err.as_str()), (Some(0), ""), "{name}");
+        let text = String::from_utf8(folder.read("certificate")).expect("a text");
+        let checked = folder.bullseye(&["certify", "--check", "certificate"]);
+        assert_eq!(checked.text(), "certificate: all agree\n", "{name}");
+        assert_eq!(value(&text, "kind"), "redacted");
+        assert!(text.contains("# No theorem about the deleted crop"));
+        folder.write("redacted", &crop_after(&text, "redacted crop, "));
+        let same = folder.bullseye(&["redact", "--check", &name, "redacted"]);
+        assert_eq!(same.code, Some(0), "{name}");
+        let (report, records, _) = judged(&file);
+        let counts = [report.found, report.kept].map(|count| count.to_string());
+        assert_eq!(["found", "kept"].map(|key| value(&text, key)), counts);
+        assert_eq!(words(&text), records[..report.kept as usize * 40], "{name}");
+    }
+}
+
+#[test]
+fn a_changed_redacted_crop_is_noticed() {
+    let folder = Folder::new("certify-redacted-changed");
+    folder.write("parcel", &parcel());
+    let ran = folder.bullseye(&["certify", "--redacted", "--least", "parcel"]);
+    let text = ran.text().replace("found: 1", "found: 2");
+    folder.write("certificate", text.as_bytes());
+    let checked = folder.bullseye(&["certify", "--check", "certificate"]);
+    assert_eq!(checked.code, Some(1));
+    let misused = [
+        &["certify", "--least", "parcel"][..],
+        &["certify", "--check", "--redacted", "certificate"],
+    ];
+    for arguments in misused {
+        assert_eq!(folder.bullseye(arguments).code, Some(2), "{arguments:?}");
+    }
 }
