@@ -1,41 +1,22 @@
 -- What the program's lent words, its 400 records and its 65,536 bytes of input give. Assumes nothing.
-use Prim.Native.Nat.{ℕ, zero, suc, _*_, _≤_, _<_}
+use Prim.Native.Nat.{ℕ, _*_, _<_}
 use native.Mathlib.Nat.{mul-assoc, mul-le-mul-right}
 use native.Mathlib.Omega.{arith}
 use mathlib.Core.Bool.{Bool, true, false, cond, _||_}
-use mathlib.Core.List.{List, [], _∷_}
+use mathlib.Core.List.{List, []}
 use mathlib.Core.Path.{_≡_, refl, sym, ap, _∙_}
 use borrow.Author.Tests.{eqb-true, ltb-true, ltb-false, eq-eqb, ne-eqb}
 use lib.Dec.{eqb, ltb}
 use lib.ListN.{length, take, replicate}
 use lib.Seq.{take-all}
-use Rattle.bit_matrix.specs.Shape.{rowWords, shapeOf, size}
+use Rattle.bit_matrix.specs.Shape.{rowWords}
 use Rattle.crop_sizes.specs.Sizes.{rowBytes, leastSide, misfit}
-use Rattle.crop.specs.Crop.{fileShape, fileWords, width, height, noRoom, refusal, fileRefusal, fileKind}
-use Rattle.crop.specs.CropClauses.{Checks, orSix}
-use Rattle.crop.specs.CropLaws.{file-accepted, refusal-six, checked-shape, file-accepted-by}
-use Rattle.crop.specs.declared.Checked.{Checked}
+use Rattle.crop.specs.Crop.{fileWords, width, height, noRoom, refusal, fileRefusal, fileKind}
+use Rattle.crop.specs.CropClauses.{orSix}
+use Rattle.crop.specs.CropLaws.{file-accepted, refusal-six}
 use Rattle.crop.specs.PrefixLaws.{refusal-prefix}
 use Rattle.detector.specs.Detector.{run, FileRun, filed, refusedReport, refusedOr, fileRun}
-use Rattle.detector.specs.DetectorLaws.{file-few}
-use Rattle.detector.specs.declared.Report.{Report}
-use Rattle.text.specs.Text.{Puts}
-use Rattle.text.specs.TextLaws.{puts-as}
 use Rattle.find.specs.Find.{lentWords, textOf, printed}
-
--- the words of a file that was checked: no image has more than 8,000
-pub lent-by : {c : Checked} {n : ℕ} → n ≡ size (c .shape) → (file : List ℕ) → Checks file c → (n ≡ lentWords file) × (n ≤ 8000)
-unfolding lentWords
-lent-by {c} {n} is file checks = go (eqb (c .answer) 0) refl
-  where
-    go : (b : Bool) → eqb (c .answer) 0 ≡ b → (n ≡ lentWords file) × (n ≤ 8000)
-    go true e =
-        let zero : c .answer ≡ 0 = eqb-true _ _ e in
-        let same : n ≡ fileWords file = is ∙ ap size (checked-shape checks zero) in
-        (rw (eq-eqb (refusal file) 0 (sym (checks .answer) ∙ zero)) same, omega (arith, is, file-accepted-by checks zero .limits .words-most))
-    go false e =
-        let none : n ≡ 0 = is ∙ ap size (checks .shape ∙ ap (λ (b : Bool). cond b (fileShape file) (shapeOf 0 0)) e) in
-        (rw (← (checks .answer), e) none, omega arith)
 
 -- the lent words fit, and 400 records are buffer enough: no answer is 6
 pub never-six : (file : List ℕ) → fileRefusal file (lentWords file) (lentWords file) 16000 ≡ refusal file
@@ -49,27 +30,6 @@ never-six file = refusal-six fileKind leastSide file _ ∙ go (eqb (refusal file
         → cond b (cond (misfit (lent b) (fileWords file) || noRoom (fileWords file) (lent b) 16000) 6 0) (refusal file) ≡ refusal file
     go true e = rw (eq-eqb (fileWords file) (fileWords file) refl) (sym (eqb-true _ _ e))
     go false e = refl
-
--- the buffer has room for 400 records, and no more are kept
-pub kept-few : (file words records marks : List ℕ) {words′ records′ marks′ : List ℕ} {r : Report}
-    → filed words′ (run r records′ marks′) ≡ fileRun file words records marks → length records ≡ 16000 → r .kept ≤ 400
-kept-few file words records marks searched long =
-    omega (arith, ap (λ (x : FileRun). x .run .report .kept) searched, file-few file words records marks)
-
--- the start of a buffer of zeros
-pub take-zeros : (n m : ℕ) → n ≤ m → take n (replicate m 0) ≡ replicate {A = ℕ} n 0
-take-zeros zero m h = refl
-take-zeros (suc n) zero h = absurd (omega arith)
-take-zeros (suc n) (suc m) h = ap (λ (l : List ℕ). 0 ∷ l) (take-zeros n m (omega arith))
-
--- the text of a search with these buffers lent is what is printed
-pub puts-printed : (file : List ℕ) {n : ℕ} (lent : List ℕ) {words′ records′ marks′ : List ℕ} {r : Report} {next : ℕ} {before after : List ℕ}
-    → n ≡ lentWords file → lent ≡ replicate n 0 → filed words′ (run r records′ marks′) ≡ fileRun file lent (replicate 16000 0) lent
-    → Puts (textOf (run r records′ marks′)) 0 before next after → Puts (printed file) 0 before next after
-unfolding printed
-puts-printed file lent size zeros searched puts =
-    let are : lent ≡ replicate (lentWords file) 0 = zeros ∙ ap (λ (k : ℕ). replicate k 0) size in
-    puts-as (ap (λ (x : FileRun). textOf (x .run)) (searched ∙ ap (λ (l : List ℕ). fileRun file l (replicate 16000 0) l) are)) puts
 
 -- ---- an input of more than 65,536 bytes is refused as its start is
 
