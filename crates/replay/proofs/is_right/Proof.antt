@@ -50,7 +50,8 @@ slice-aggregate-is-right-in-3 c = zeros-lent 8000 _ (omega arith)
 is-right-in-requires : tie.Need-is-right-in-requires
 is-right-in-requires c κs =
     let lent = c .before .before .before .before .before in
-    (search needs, few 8000 (lent .before .before .before .before .before .args .vector .words) (omega arith))
+    let start = lent .before .before .before .before .before in
+    (search needs, few 8000 (start .args .vector .words) (omega arith))
 
 returns-4 : tie.Need-returns-4
 returns-4 c = search needs

@@ -26,9 +26,10 @@ returns-2 c = refuse-test (c .before .all-small .ensures) (c .if2 .taken) (λ f.
 
 keep-and-rank-requires : tie.Need-keep-and-rank-requires
 keep-and-rank-requires c κs =
-    let s = c .before in
-    let few = passed-test (s .before .all-small .ensures) (s .if2 .left) in
-    (candidates (s .before .before .before .before .capacity-of .ensures) (search needs) few, search needs, search needs)
+    let tested = c .before in
+    let room = tested .before .before .before .before in
+    let few = passed-test (tested .before .all-small .ensures) (tested .if2 .left) in
+    (candidates (room .capacity-of .ensures) (search needs) few, search needs, search needs)
 
 same-length-2 : tie.Need-same-length-2
 same-length-2 c = search needs
