@@ -35,7 +35,7 @@ loop-less c = search needs
 loop-again : tie.Need-loop-again Inv-loop μ-loop
 loop-again c =
     let put = c .before .before .put-next-hex .ensures in
-    corners-more (search needs) (search needs) (put .1) (put .0) (c .before .before .before .before .before .loop .inv)
+    corners-more (search needs) (search needs) (put .1) (put .0) (search needs)
 
 same-length : tie.Need-same-length Inv-loop μ-loop
 same-length c = search needs
