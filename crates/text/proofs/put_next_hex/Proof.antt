@@ -17,7 +17,10 @@ same-length : tie.Need-same-length
 same-length c = search needs
 
 returns : tie.Need-returns
-returns c = (puts-then (c .before .before .before .before .before .before .put .ensures) (c .before .before .put-hex .ensures .0), search needs)
+returns c =
+    let number = c .before .before in
+    let space = number .before .before .before .before in
+    (puts-then (space .put .ensures) (number .put-hex .ensures .0), search needs)
 
 pub put-next-hex-spec : {M : Type 1} → statement M
 put-next-hex-spec =
