@@ -9,11 +9,10 @@ use borrow.Author.Tests.{eqb-true, eq-eqb, ne-eqb}
 use lib.Dec.{eqb}
 use lib.ListN.{length, take, replicate, length-replicate}
 use lib.Seq.{length-take-le}
-use Rattle.reads.specs.Bits.{bitAt, zeros}
-use Rattle.reads.specs.Runs.{valueOf, marksOf}
+use Rattle.reads.specs.Bits.{bitAt}
+use Rattle.reads.specs.Runs.{valueOf}
 use Rattle.bit_matrix.specs.declared.Shape.{Shape}
 use Rattle.bit_matrix.specs.Shape.{shapeOf, size, Limits, Image}
-use Rattle.marks.specs.Marks.{onesOf}
 use Rattle.crop_sizes.specs.ChainLaws.{chain-here, chain-next}
 use Rattle.crop_sizes.specs.Sizes.{misfit}
 use Rattle.crop_rows.specs.Unpack.{unpacked}
@@ -23,14 +22,10 @@ use Rattle.crop.specs.Crop.{fileShape, image, noRoom, wordsRefusal, fileRefusal
 use Rattle.crop.specs.CropClauses.{Checks, orSix, WordsAccepted, FileReady}
 use Rattle.crop.specs.CropLaws.{words-accepted, file-ready, file-refusal-by, ready-shape, file-ready-by}
 use Rattle.crop.specs.declared.Checked.{Checked}
-use Rattle.records.specs.Records.{capacityOf, laidOut}
-use Rattle.detector_candidates.specs.CandidatesClauses.{Room}
-use Rattle.detector_verdict.specs.declared.Counts.{Counts}
+use Rattle.records.specs.Records.{capacityOf}
 use Rattle.detector_verdict.specs.VerdictLaws.{counted-few}
-use Rattle.detector_search.specs.Search.{searchAt}
-use Rattle.detector_search.specs.SearchClauses.{Sought}
 use Rattle.detector_search.specs.SearchLaws.{search-counted}
-use Rattle.detector.specs.Detector.{Run, run, reportOf, refusedReport, steps, acceptedRun, refusedOr, wordsRun, filed, fileRun}
+use Rattle.detector.specs.Detector.{Run, run, refusedReport, acceptedRun, refusedOr, wordsRun, filed, fileRun}
 use Rattle.detector.specs.declared.Report.{Report}
 
 -- ---- refused, or accepted
@@ -43,29 +38,6 @@ module _ {A : Type 0} (refused : ℕ → A) (accepted : A) {number : ℕ} where
   pub is-accepted : number ≡ 0 → accepted ≡ refusedOr number refused accepted
   unfolding refusedOr
   is-accepted none = chain-here _ _ (eq-eqb _ 0 none) refl
-
--- ---- an accepted image
-
--- the capacity that the record buffer gives
-pub room-of : {records : List ℕ} {capacity : ℕ} → capacity ≡ capacityOf (length records) → Room capacity records 0
-room-of is = record { few = omega arith; most = omega (arith, is); held = omega (arith, is) }
-
--- the marks cleared, the search run from there, and the marks counted
-pub accepted-by : (shape : Shape) {words marks cleared records marks′ records′ : List ℕ} {capacity n : ℕ} {c : Counts} {r : Report} → Image shape words marks
-    → cleared ≡ zeros (length marks) → capacity ≡ capacityOf (length records)
-    → Sought (searchAt shape capacity) capacity words cleared records c marks′ records′ → n ≡ onesOf marks′ → r ≡ reportOf c n
-    → run r records′ marks′ ≡ acceptedRun shape words records
-unfolding acceptedRun
-accepted-by shape {words} {marks} {cleared} {records} {marks′} {records′} {capacity} {n} {c} {r} image clear room sought counted made =
-    let full : Sought (steps shape (length records)) (capacityOf (length records)) words cleared records c marks′ records′ = rw room at sought in
-    let marked : marks′ ≡ marksOf (steps shape (length records)) words (zeros (length words)) =
-    full .marked ∙ ap (marksOf (steps shape (length records)) words) (clear ∙ ap zeros (image .sized)) in
-    let report : r
-    ≡ reportOf ((valueOf (steps shape (length records)) words) .counts)
-    (onesOf (marksOf (steps shape (length records)) words (zeros (length words)))) =
-    made ∙ ap₂ reportOf (full .counts) (counted ∙ ap onesOf marked) in
-    ap₂ (λ (x : Report) (l : List ℕ). run x l marks′) report (full .stored)
-    ∙ ap (run _ (laidOut (capacityOf (length records)) ((valueOf (steps shape (length records)) words) .records) records)) marked
 
 -- ---- an image in words
 
