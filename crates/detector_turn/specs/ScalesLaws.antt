@@ -1,31 +1,27 @@
 -- What holds of a turn, on every image. Assumes nothing.
-use Prim.Native.Nat.{ℕ, zero, suc, _+_, _-_, _%_, _≤_, _<_}
+use Prim.Native.Nat.{ℕ, zero, suc, _+_, _%_, _≤_}
 use mathlib.Core.Bool.{Bool, true, false, _||_, true≢false}
 use mathlib.Core.List.{List}
 use mathlib.Core.Path.{_≡_, refl}
 use native.Mathlib.Omega.{arith}
 use borrow.Author.Tests.{leb-false}
-use lib.Dec.{T, leb}
-use lib.Ieee.{Float, nan, binary32, ofBits, ofInt, toBits, le}
-use lib.ListN.{getD}
-use Rattle.sines.specs.Every.{every-at}
+use lib.Dec.{leb}
+use lib.Ieee.{Float, binary32, ofInt, toBits}
 use Rattle.reads.specs.Reads.{Reads, done}
 use Rattle.reads.specs.ReadsLaws.{Always, always-done, always-bind, always-after, always-cond}
 use Rattle.bit_matrix.specs.declared.Shape.{Shape}
 use Rattle.bit_matrix.specs.Shape.{Inside}
 use Rattle.rxing_result_point.specs.declared.PointU.{PointU}
 use Rattle.rxing_result_point.specs.Points.{real}
-use Rattle.detector_size.specs.SizeClauses.{isScale}
 use Rattle.detector_boundary.specs.BoundaryClauses.{Centered}
 use Rattle.detector_circle.specs.declared.Circle.{Circle}
-use Rattle.detector_circle.specs.Circle.{correctedCircle}
 use Rattle.detector_degrees.specs.declared.Rotation.{Rotation}
 use Rattle.detector_degrees.specs.declared.Rotation.the-variants.{Found, None}
 use Rattle.detector_degrees.specs.Degrees.{ifRotation}
 use Rattle.detector_degrees.specs.DegreesLaws.{Tried, tried}
 use Rattle.detector_outcome.specs.declared.Turn.{Turn}
 use Rattle.detector_outcome.specs.Outcomes.{ifOutcome, rotationBits, turnedBy}
-use Rattle.detector_turn.specs.Scales.{acceptedScales, acceptedScale, isOutside, attemptRotationBox, scalesFrom, tryScales}
+use Rattle.detector_turn.specs.Scales.{acceptedScale, isOutside, attemptRotationBox, scalesFrom, tryScales}
 use Rattle.detector_turn.specs.ScalesClauses.{LentCircle}
 
 -- A degree is even and at most 348, and 0 without a turn. The rotation is the degree as an f32. With a turn or a lost centre the scale is 1 to 5, else 0.
@@ -51,16 +47,6 @@ inside-of shape p e =
 pub centered-of : {shape : Shape} {words marks : List ℕ} {circle : Circle} {table : List Float} → LentCircle shape words marks circle table
     → Centered shape (circle .center)
 centered-of lent = record { limits = lent .lent .image .limits; inside = lent .lent .inside }
-
--- the centre's correction keeps the radius
-pub radius-kept : (shape : Shape) (circle : Circle) → Always (λ (next : Circle). next .radius ≡ circle .radius) (correctedCircle shape circle)
-unfolding correctedCircle
-radius-kept shape circle = always-after _ _ λ center. always-done refl
-
--- every accepted scale is one that the boundaries take
-pub scale-accepted : (scale : ℕ) → 1 ≤ scale → scale < 6 → T (isScale (acceptedScale scale))
-unfolding acceptedScale ofBits le
-scale-accepted scale first last = every-at (λ (i : ℕ). isScale (getD acceptedScales i nan)) 5 tt (scale - 1) (omega arith)
 
 no-rotation : 0 ≡ toBits binary32 (real 0)
 unfolding toBits ofInt
