@@ -22,7 +22,7 @@ use Rattle.detector_kept.specs.KeptClauses.{Candidates}
 use Rattle.detector_kept.specs.Kept.{ranked}
 
 -- what the kept records hold once they have their variance
-pub each-varied : (P Q : Record → Type 0) → ((r : Record) → P r → Q (withVariance r))
+each-varied : (P Q : Record → Type 0) → ((r : Record) → P r → Q (withVariance r))
     → (s : Spread) (rs : List Record) → Each P rs → Each Q (map withVariance (retain s rs))
 each-varied P Q gives s rs each = each-map P Q withVariance gives (retain s rs) (each-filter P (near s) rs each)
 
