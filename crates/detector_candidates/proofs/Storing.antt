@@ -3,7 +3,7 @@ use Prim.Native.Nat.{ℕ, zero, suc, _+_, _*_, _≤_, min}
 use native.Mathlib.Nat.{suc-add, min-eq-left, min-eq-right}
 use native.Mathlib.Omega.{arith}
 use mathlib.Core.Path.{_≡_, refl, sym, ap, _∙_}
-use mathlib.Core.Bool.{true, false}
+use mathlib.Core.Bool.{Bool, true, false, cond}
 use mathlib.Core.List.{List, [], _∷_, _++_}
 use lib.ListN.{length, take, drop, set, length-append}
 use lib.Seq.{take-all, take-at}
@@ -13,6 +13,14 @@ use Rattle.records.specs.RecordsLaws.{length-rows, drop-later, replaced}
 use Rattle.detector_candidates.specs.Candidates.{after}
 use Rattle.detector_candidates.specs.CandidatesClauses.{Room, Stored}
 use Rattle.detector_candidate.specs.declared.Searched.{Searched}
+
+-- candidates are only added
+pub after-more : (circles : List Record) (s : Searched) → length circles ≤ length (after circles s)
+after-more circles s = go (s .passed)
+  where
+    go : (b : Bool) → length circles ≤ length (cond b (circles ++ s .candidate ∷ []) circles)
+    go true = simp length-append (omega arith)
+    go false = omega arith
 
 -- the last record replaced
 set-last : (n : ℕ) (l : List ℕ) (r : Record) → set (rows (n + 1) l) n r ≡ rows n l ++ r ∷ []

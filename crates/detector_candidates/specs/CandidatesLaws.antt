@@ -9,14 +9,14 @@ use borrow.Author.Tests.{ltb-true, ltb-false}
 use lib.Dec.{ltb}
 use lib.ListN.{length, length-append}
 use Rattle.reads.specs.Reads.{Reads, done}
-use Rattle.reads.specs.ReadsLaws.{Always, Same, always-done, always-bind, always-after, always-cond, same-refl, same-after, same-cond}
+use Rattle.reads.specs.ReadsLaws.{Always, Same, always-done, always-bind, always-cond, same-refl, same-after, same-cond}
 use Rattle.records.specs.Records.{Record}
 use Rattle.records.specs.RecordsClauses.{Each}
 use Rattle.bit_matrix.specs.declared.Shape.{Shape}
 use Rattle.bit_matrix.specs.Shape.{Limits}
 use Rattle.detector_widths.specs.WidthsF32.{validWidthsF32}
 use Rattle.detector_candidates.specs.Candidates.{after, rowBy, rowsBy, concentricCirclesBy, concentricCircles}
-use Rattle.detector_candidate.specs.CandidateClauses.{Searchable, searchFrom}
+use Rattle.detector_candidate.specs.CandidateClauses.{Searchable}
 use Rattle.detector_candidates.specs.CandidatesClauses.{rowFrom, rowsFrom}
 use Rattle.detector_candidate.specs.declared.Searched.{Searched}
 use Rattle.detector_candidate.specs.CandidateLaws.{Candidate, searchable-next, searchable-first, FitSearch, search-fit, same-search}
@@ -33,25 +33,6 @@ each-append : (P : Record → Type 0) (rs : List Record) (r : Record) → Each P
 unfolding Each
 each-append P [] r each p = (p, tt)
 each-append P (x ∷ rs) r each p = (each .0, each-append P rs r (each .1) p)
-
--- ---- candidates are only added
-
-pub after-more : (circles : List Record) (s : Searched) → length circles ≤ length (after circles s)
-after-more circles s = go (s .passed)
-  where
-    go : (b : Bool) → length circles ≤ length (cond b (circles ++ s .candidate ∷ []) circles)
-    go true = simp length-append (omega arith)
-    go false = omega arith
-
-pub row-more : (shape : Shape) (capacity n row column : ℕ) (circles : List Record)
-    → Always (λ (now : List Record). length circles ≤ length now) (rowFrom shape capacity n row column circles)
-unfolding rowBy
-row-more shape capacity zero row column circles = always-done (omega arith)
-row-more shape capacity (suc n) row column circles =
-    always-after (searchFrom shape row column) _ λ s.
-    always-cond (s .ended || ltb capacity (length (after circles s)))
-    (λ _. always-done (after-more circles s))
-    (λ _. record { on = λ image. omega (arith, after-more circles s, row-more shape capacity n row (s .column) (after circles s) .on image) })
 
 -- ---- the whole sweep
 

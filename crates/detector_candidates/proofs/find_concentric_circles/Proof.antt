@@ -2,7 +2,7 @@
 -- does, and only the candidates so far were written. The measure is the rows left. Assumes nothing.
 use Prim.Native.Nat.{ℕ, zero, suc, _+_, _-_, _*_, _≤_, _<_}
 use mathlib.Core.Path.{_≡_, refl, sym, _∙_}
-use mathlib.Core.Bool.{cond}
+use mathlib.Core.Bool.{cond, _||_}
 use mathlib.Core.List.{List}
 use native.Mathlib.Omega.{arith}
 use borrow.Author.Needs.{needs}
@@ -10,6 +10,7 @@ use borrow.Author.Tests.{lt-ltb, le-ltb}
 use lib.Dec.{ltb}
 use lib.ListN.{length, drop}
 use Rattle.reads.specs.Reads.{Reads, done}
+use Rattle.reads.specs.ReadsLaws.{Always, always-done, always-after, always-cond}
 use Rattle.reads.specs.Runs.{valueOf}
 use Rattle.reads.specs.RunsClauses.{Ran, Resumes}
 use Rattle.reads.specs.RunsLaws.{ran-done, always-ran, resumes-start, resumes-step, resumes-then, resumes-else, resumes-end}
@@ -18,12 +19,23 @@ use Rattle.records.specs.RecordsLaws.{length-rows}
 use Rattle.bit_matrix.specs.declared.Shape.{Shape}
 use Rattle.bit_matrix.specs.Shape.{Image}
 use Rattle.bit_matrix.specs.ShapeLaws.{image-kept}
+use Rattle.detector_candidate.specs.CandidateClauses.{searchFrom}
 use Rattle.detector_candidates.specs.CandidatesClauses.{rowFrom, rowsFrom, Room, Listed}
-use Rattle.detector_candidates.specs.Candidates.{rowsBy, concentricCirclesBy, concentricCircles}
-use Rattle.detector_candidates.specs.CandidatesLaws.{row-more}
-use Rattle.detector_candidates.proofs.Storing.{stored-all, stored-rows, stored-rest, stored-since}
+use Rattle.detector_candidates.specs.Candidates.{after, rowBy, rowsBy, concentricCirclesBy, concentricCircles}
+use Rattle.detector_candidates.proofs.Storing.{after-more, stored-all, stored-rows, stored-rest, stored-since}
 use Rattle.detector_candidates.proofs.find_concentric_circles.Statement.{statement}
 use Rattle.detector_candidates.proofs.find_concentric_circles.Tie as tie
+
+-- a row only adds candidates
+row-more : (shape : Shape) (capacity n row column : ℕ) (circles : List Record)
+    → Always (λ (now : List Record). length circles ≤ length now) (rowFrom shape capacity n row column circles)
+unfolding rowBy
+row-more shape capacity zero row column circles = always-done (omega arith)
+row-more shape capacity (suc n) row column circles =
+    always-after (searchFrom shape row column) _ λ s.
+    always-cond (s .ended || ltb capacity (length (after circles s)))
+    (λ _. always-done (after-more circles s))
+    (λ _. record { on = λ image. omega (arith, after-more circles s, row-more shape capacity n row (s .column) (after circles s) .on image) })
 
 record Sweeping (words marks₀ records₀ : List ℕ) (shape : Shape) (capacity : ℕ) (marks records : List ℕ) (found row : ℕ) : Type 0 where
   fuel : ℕ

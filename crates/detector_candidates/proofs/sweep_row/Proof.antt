@@ -22,9 +22,8 @@ use Rattle.detector_candidate.specs.CandidateClauses.{Searchable, searchFrom}
 use Rattle.detector_candidates.specs.CandidatesClauses.{rowFrom, Room, Stored, Listed}
 use Rattle.detector_candidates.specs.Candidates.{after, rowBy}
 use Rattle.detector_candidate.specs.CandidateLaws.{FitSearch, search-fit, searchable-first, searchable-next}
-use Rattle.detector_candidates.specs.CandidatesLaws.{after-more}
 use Rattle.detector_candidate.specs.declared.Searched.{Searched}
-use Rattle.detector_candidates.proofs.Storing.{stored-rows, stored-rest, stored-since}
+use Rattle.detector_candidates.proofs.Storing.{after-more, stored-rows, stored-rest, stored-since}
 use Rattle.detector_candidates.proofs.sweep_row.Statement.{statement}
 use Rattle.detector_candidates.proofs.sweep_row.Tie as tie
 
