@@ -69,7 +69,7 @@ clamped-difference c (suc n) high = go (decLt c (suc n))
 apart : (c size l r margin : ℕ) → c < size → 33 ≤ size → margin ≤ 33 → margin ≤ l + r → min (c - l) (size - margin) + margin ≤ max 33 (min (c + r) size)
 apart c size l r margin inside large small far = omega arith
 
-pub placed : {shape : Shape} {center : PointU} → Centered shape center → (size : Size) → 36 ≤ size .width → size .width ≤ 32768 → 30 ≤ size .height
+placed : {shape : Shape} {center : PointU} → Centered shape center → (size : Size) → 36 ≤ size .width → size .width ≤ 32768 → 30 ≤ size .height
     → Placed (boundaryOf shape center size)
 unfolding boundaryOf
 placed {shape} {center} p size wide narrow high =

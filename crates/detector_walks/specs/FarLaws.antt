@@ -56,7 +56,7 @@ resign-units s q k n = go (ltb (q * 2 ^ k) (2 ^ (149 + 128)))
 resign : (s : Bool) (n a b : ℕ) → Far false n (round binary32 false a b) → Far s n (round binary32 s a b)
 resign s n a b h = rw round-is (resign-units s _ _ n (rw round-is at h))
 
-pub round-far : (s : Bool) (n a b : ℕ) → 0 < n → n ≤ 2 ^ 24 → 0 < b → n * b ≤ a → Far s n (round binary32 s a b)
+round-far : (s : Bool) (n a b : ℕ) → 0 < n → n ≤ 2 ^ 24 → 0 < b → n * b ≤ a → Far s n (round binary32 s a b)
 round-far s n a b N small B h =
     resign s n a b
     (far-of-le n (round binary32 false n 1) (round binary32 false a b) N (round-whole binary32 false n small)
