@@ -4,7 +4,7 @@ use native.Mathlib.Omega.{arith}
 use mathlib.Core.Bool.{Bool, true, false, cond, _||_}
 use mathlib.Core.List.{List}
 use mathlib.Core.Path.{_≡_, refl, sym, ap, _∙_, subst⁻¹}
-use borrow.Author.Tests.{ltb-false, eqb-true, eqb-false, eq-eqb, ne-eqb, not-false}
+use borrow.Author.Tests.{ltb-false, eqb-true, eqb-false, eq-eqb, not-false}
 use lib.Dec.{eqb, ltb}
 use lib.ListN.{length}
 use Rattle.bit_matrix.specs.declared.Shape.{Shape}
@@ -82,15 +82,6 @@ unfolding refusalOf imageRefusal
 refusal-six k least file unfit =
     last-six (badHeader k file) (outside least (width file) || outside least (height file)) (ltb 8000 (fileWords file))
     (misfit (length file) (fileLength (width file) (height file))) (filePadded file (width file) (height file)) unfit
-
--- a number of its own, and the number of what is lent
-pub six-kept : {n : ℕ} (unfit : Bool) → (n ≡ 0 → ⊥) → n ≡ orSix n unfit
-unfolding orSix
-six-kept {n} unfit some = rw (ne-eqb n 0 some) refl
-
-pub six-next : {n r : ℕ} (unfit : Bool) → n ≡ 0 → r ≡ cond unfit 6 0 → r ≡ orSix n unfit
-unfolding orSix
-six-next {n} unfit none same = rw (eq-eqb n 0 none) same
 
 -- the lent words first, and then the room for a search
 module _ (number : ℕ) (unfit full : Bool) {n : ℕ} (is : n ≡ orSix number unfit) where
