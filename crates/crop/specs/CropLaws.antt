@@ -83,26 +83,6 @@ refusal-six k least file unfit =
     last-six (badHeader k file) (outside least (width file) || outside least (height file)) (ltb 8000 (fileWords file))
     (misfit (length file) (fileLength (width file) (height file))) (filePadded file (width file) (height file)) unfit
 
--- the lent words first, and then the room for a search
-module _ (number : ℕ) (unfit full : Bool) {n : ℕ} (is : n ≡ orSix number unfit) where
-  pub six-more : (n ≡ 0 → ⊥) → n ≡ orSix number (unfit || full)
-  unfolding orSix
-  six-more some = go (eqb number 0) unfit is
-    where
-      go : (t u : Bool) → n ≡ cond t (cond u 6 0) number → n ≡ cond t (cond (u || full) 6 0) number
-      go false u e = e
-      go true true e = e
-      go true false e = absurd (some e)
-
-  pub six-last : {r : ℕ} → n ≡ 0 → r ≡ cond full 6 0 → r ≡ orSix number (unfit || full)
-  unfolding orSix
-  six-last {r} none same = go (eqb number 0) unfit refl is
-    where
-      go : (t u : Bool) → eqb number 0 ≡ t → n ≡ cond t (cond u 6 0) number → r ≡ cond t (cond (u || full) 6 0) number
-      go false u t e = absurd (eqb-false _ _ t (sym e ∙ none))
-      go true true t e = absurd (omega arith)
-      go true false t e = same
-
 -- with no number
 pub six-past : (n : ℕ) (unfit : Bool) → orSix n unfit ≡ 0 → (n ≡ 0) × (unfit ≡ false)
 unfolding orSix
