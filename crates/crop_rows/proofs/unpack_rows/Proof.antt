@@ -157,8 +157,12 @@ add-bytes c = search needs
 loop-holds : tie.Need-loop-holds Inv-loop μ-loop
 loop-holds c = search begins
 
+-- the start of the function, from a turn of the loop
+abbrev start-of : tie.In-loop Inv-loop μ-loop → tie.Start Inv-loop μ-loop
+start-of turn = turn .before .before .before .before .before
+
 inside-at : (c : tie.In-loop Inv-loop μ-loop)
-    → let s = c .before .before .before .before .before in
+    → let s = start-of c in
     let y = c .before .loop .y in
     (4 + y * rowBytes (s .args .shape .width) + rowBytes (s .args .shape .width) ≤ length (s .args .file .now)) × (y < s .args .shape .height)
 inside-at c = (search row-inside, search row-below)
@@ -195,8 +199,9 @@ loop-less c = search needs
 
 loop-again : tie.Need-loop-again Inv-loop μ-loop
 loop-again c =
-    let s = c .before .before .before .before .before .before .before .before in
-    next-row (s .args .words .now) (s .pre .0) (s .pre .1) (c .before .before .before .before .loop .inv) (c .before .before .before .loop-test .taken)
+    let turn = c .before .before .before in
+    let s = start-of turn in
+    next-row (s .args .words .now) (s .pre .0) (s .pre .1) (turn .before .loop .inv) (turn .loop-test .taken)
     (c .before .before .load .ensures) (c .before .reverse .ensures) (c .if1 .taken)
 
 loop-less-2 : tie.Need-loop-less-2 Inv-loop μ-loop
@@ -204,8 +209,9 @@ loop-less-2 c = search needs
 
 loop-again-2 : tie.Need-loop-again-2 Inv-loop μ-loop
 loop-again-2 c =
-    let s = c .before .before .before .before .before .before .before .before in
-    same-row (s .args .words .now) (s .pre .0) (s .pre .1) (c .before .before .before .before .loop .inv) (c .before .before .before .loop-test .taken)
+    let turn = c .before .before .before in
+    let s = start-of turn in
+    same-row (s .args .words .now) (s .pre .0) (s .pre .1) (turn .before .loop .inv) (turn .loop-test .taken)
     (c .before .before .load .ensures) (c .before .reverse .ensures) (c .if1 .left)
 
 same-length : tie.Need-same-length Inv-loop μ-loop
