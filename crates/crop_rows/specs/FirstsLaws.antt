@@ -1,12 +1,11 @@
--- Laws of the list of a function's first values, and of a loop that stores it from the front. Assumes nothing.
-use Prim.Native.Nat.{ℕ, zero, suc, _+_, _≤_, _<_}
-use native.Mathlib.Numerals.{add-one}
+-- Laws of the list of a function's first values. Assumes nothing.
+use Prim.Native.Nat.{ℕ, zero, suc, _<_}
 use native.Mathlib.Decide.{ℕ-discrete}
 use native.Mathlib.Omega.{arith}
-use mathlib.Core.List.{List, [], _∷_, _++_, append-nil}
-use mathlib.Core.Path.{_≡_, refl, sym, _∙_}
-use lib.ListN.{length, getD, set, drop, length-append, List·getD-append, drop-of-length-le}
-use lib.Seq.{append-snoc, drop-cons, set-at, getD-at}
+use mathlib.Core.List.{[], _∷_, _++_}
+use mathlib.Core.Path.{_≡_, refl, _∙_}
+use lib.ListN.{length, getD, length-append, List·getD-append}
+use lib.Seq.{getD-at}
 use Rattle.crop_padding.specs.Below.{firsts}
 
 module _ (f : ℕ → ℕ) where
@@ -23,17 +22,3 @@ module _ (f : ℕ → ℕ) where
   unfolding firsts
   getD-firsts zero h = absurd (omega arith)
   getD-firsts (suc n) {i} h = at-or-before (ℕ-discrete i n) h λ l. getD-firsts n l
-
-  -- a loop over a lent list: before it, a turn, and at its end
-  pub firsts-none : (d : List ℕ) → d ≡ firsts f 0 ++ drop 0 d
-  unfolding firsts
-  firsts-none d = refl
-
-  pub firsts-more : (d : List ℕ) (n : ℕ) {v : ℕ} → n < length d → v ≡ f n → set (firsts f n ++ drop n d) n v ≡ firsts f (n + 1) ++ drop (n + 1) d
-  unfolding firsts
-  firsts-more d n {v} h e =
-      rw (add-one, drop-cons d n 0 h, e)
-      (set-at (firsts f n) (getD d n 0) (drop (suc n) d) (f n) n (length-firsts n) ∙ sym (append-snoc (firsts f n) (f n) (drop (suc n) d)))
-
-  pub firsts-all : (d : List ℕ) {n : ℕ} → length d ≤ n → firsts f n ++ drop n d ≡ firsts f n
-  firsts-all d {n} h = rw drop-of-length-le (append-nil (firsts f n))
