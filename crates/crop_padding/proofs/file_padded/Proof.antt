@@ -69,11 +69,15 @@ shl-unit c = search needs
 cast-rows : tie.Need-cast-rows Inv-loop μ-loop
 cast-rows c = search needs
 
+-- the start of the function, from a turn of the loop
+abbrev start-of : tie.In-loop Inv-loop μ-loop → tie.Start Inv-loop μ-loop
+start-of turn = turn .before .before .before .before
+
 inside-at : (c : tie.In-loop Inv-loop μ-loop)
-    → let a = c .before .before .before .before .args in
+    → let a = start-of c .args in
     lastByte (a .shape .width) (c .before .loop .y) < length (a .file .now)
 inside-at c =
-    let s = c .before .before .before .before in
+    let s = start-of c in
     inside (s .args .file .now) (s .args .shape .width) (s .args .shape .height) (c .before .loop .y) (s .pre .1) (omega arith) (c .loop-test .taken)
 
 loop-holds : tie.Need-loop-holds Inv-loop μ-loop
@@ -99,9 +103,10 @@ rem-if1 c = unit-pos _ (omega arith)
 
 returns : tie.Need-returns Inv-loop μ-loop
 returns c =
-    let a = c .before .before .before .before .before .before .args in
-    let y = c .before .before .before .loop .y in
-    passed-found (fileRow (a .file .now) (a .shape .width)) (c .before .before .loop-test .taken)
+    let turn = c .before .before in
+    let a = start-of turn .args in
+    let y = turn .before .loop .y in
+    passed-found (fileRow (a .file .now) (a .shape .width)) (turn .loop-test .taken)
     (row-set (a .file .now) (a .shape .width) y (omega arith) (c .if1 .taken))
 
 add-y : tie.Need-add-y Inv-loop μ-loop
@@ -112,9 +117,10 @@ loop-less c = search needs
 
 loop-again : tie.Need-loop-again Inv-loop μ-loop
 loop-again c =
-    let a = c .before .before .before .before .before .before .args in
-    let y = c .before .before .before .loop .y in
-    passed-more (fileRow (a .file .now) (a .shape .width)) (c .before .before .before .loop .inv) (c .before .before .loop-test .taken)
+    let turn = c .before .before in
+    let a = start-of turn .args in
+    let y = turn .before .loop .y in
+    passed-more (fileRow (a .file .now) (a .shape .width)) (turn .before .loop .inv) (turn .loop-test .taken)
     (row-clean (a .file .now) (a .shape .width) y (omega arith) (c .if1 .left))
 
 returns-2 : tie.Need-returns-2 Inv-loop μ-loop

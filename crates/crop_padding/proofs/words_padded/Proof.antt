@@ -59,11 +59,15 @@ sub-used-2 c = search needs
 cast-rows : tie.Need-cast-rows Inv-loop μ-loop
 cast-rows c = search needs
 
+-- the start of the function, from a turn of the loop
+abbrev start-of : tie.In-loop Inv-loop μ-loop → tie.Start Inv-loop μ-loop
+start-of turn = turn .before .before .before .before
+
 inside-at : (c : tie.In-loop Inv-loop μ-loop)
-    → let a = c .before .before .before .before .args in
+    → let a = start-of c .args in
     c .before .loop .y * (a .shape .«row_words») + (a .shape .«row_words» - 1) < length (a .words .now)
 inside-at c =
-    let s = c .before .before .before .before in
+    let s = start-of c in
     inside (s .args .words .now) (s .args .shape) (c .before .loop .y) (s .pre .0) (s .pre .1) (c .loop-test .taken)
 
 loop-holds : tie.Need-loop-holds Inv-loop μ-loop
@@ -92,9 +96,10 @@ shr-if1 c = search needs
 
 returns : tie.Need-returns Inv-loop μ-loop
 returns c =
-    let s = c .before .before .before .before .before .before in
-    let y = c .before .before .before .loop .y in
-    passed-found (wordsRow (s .args .words .now) (s .args .shape .width)) (c .before .before .loop-test .taken)
+    let turn = c .before .before in
+    let s = start-of turn in
+    let y = turn .before .loop .y in
+    passed-found (wordsRow (s .args .words .now) (s .args .shape .width)) (turn .loop-test .taken)
     (row-set (s .args .words .now) _ (s .args .shape .width) y (s .pre .0 .rows) (omega arith) (c .before .shared-slice-known .given _ .fits) (c .if1 .taken))
 
 add-y : tie.Need-add-y Inv-loop μ-loop
@@ -105,9 +110,10 @@ loop-less c = search needs
 
 loop-again : tie.Need-loop-again Inv-loop μ-loop
 loop-again c =
-    let s = c .before .before .before .before .before .before in
-    let y = c .before .before .before .loop .y in
-    passed-more (wordsRow (s .args .words .now) (s .args .shape .width)) (c .before .before .before .loop .inv) (c .before .before .loop-test .taken)
+    let turn = c .before .before in
+    let s = start-of turn in
+    let y = turn .before .loop .y in
+    passed-more (wordsRow (s .args .words .now) (s .args .shape .width)) (turn .before .loop .inv) (turn .loop-test .taken)
     (row-clean (s .args .words .now) _ (s .args .shape .width) y (s .pre .0 .rows) (omega arith) (c .before .shared-slice-known .given _ .fits) (c .if1 .left))
 
 returns-2 : tie.Need-returns-2 Inv-loop μ-loop
