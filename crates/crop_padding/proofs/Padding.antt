@@ -1,6 +1,7 @@
 -- A row's padding by the number that the code tests. Assumes nothing.
-use Prim.Native.Nat.{ℕ, _+_, _*_, _-_, _/_, _%_, _^_, _≤_, _<_}
+use Prim.Native.Nat.{ℕ, zero, suc, _+_, _*_, _-_, _/_, _%_, _^_, _≤_, _<_}
 use native.Mathlib.Nat.{mod-eq-of-lt}
+use native.Mathlib.Numerals.{add-one}
 use native.Mathlib.Omega.{arith}
 use mathlib.Core.Bool.{Bool, true, false}
 use mathlib.Core.List.{List}
@@ -11,15 +12,25 @@ use Rattle.reads.specs.Bits.{testBit, bitAt}
 use Rattle.bit_matrix.specs.Shape.{rowWords}
 use Rattle.crop_sizes.specs.Sizes.{rowBytes}
 use Rattle.crop_padding.specs.Padding.{fileBit, wordBit, rowPadded}
-use Rattle.crop_padding.specs.Below.{anyBelow}
-use Rattle.crop_padding.specs.AnyLaws.{any-none, any-more, any-found, none-holds, none-below}
-use Rattle.crop_padding.specs.NumberLaws.{low-clear, clear-low, test-shr}
+use Rattle.crop_padding.specs.Below.{anyBelow, number}
+use Rattle.crop_padding.specs.AnyLaws.{any-found, none-holds, none-below}
+use Rattle.crop_padding.specs.NumberLaws.{number-low, low-clear, test-shr}
 
 -- ---- a loop over the rows: none of those before row y is padded
 
 pub record Passed (padded : ℕ → Bool) (rows y : ℕ) : Type 0 where
   pub most : y ≤ rows
   pub none : anyBelow padded y ≡ false
+
+-- a loop over the numbers: at its start, and after one more of which p does not hold
+module _ (p : ℕ → Bool) where
+  any-none : anyBelow p 0 ≡ false
+  unfolding anyBelow
+  any-none = refl
+
+  any-more : {n : ℕ} → p n ≡ false → anyBelow p n ≡ false → anyBelow p (n + 1) ≡ false
+  unfolding anyBelow
+  any-more {n} here before = rw (add-one, here) before
 
 module _ (padded : ℕ → Bool) {rows : ℕ} where
   pub passed-none : Passed padded rows 0
@@ -38,6 +49,16 @@ module _ (padded : ℕ → Bool) {rows : ℕ} where
         sym (ap (anyBelow padded) (sym all) ∙ before .none)
 
 -- ---- a row
+
+-- clear bits make 0
+number-clear : (p : ℕ → Bool) (n : ℕ) → ((k : ℕ) → k < n → p k ≡ false) → number p n ≡ 0
+unfolding number
+number-clear p zero clear = refl
+number-clear p (suc n) clear = rw (clear n (omega arith)) (omega (arith, number-clear p n λ k h. clear k (omega arith)))
+
+-- a number whose lowest n bits are clear has no remainder by 2 ^ n
+clear-low : (m n : ℕ) → ((j : ℕ) → j < n → testBit m j ≡ false) → m % 2 ^ n ≡ 0
+clear-low m n clear = sym (number-low m n) ∙ number-clear (testBit m) n clear
 
 -- a row whose padding bits are the n lowest bits of a number m, in some order
 module _ (bit : ℕ → ℕ → Bool) (w end y m : ℕ) (place : ℕ → ℕ)

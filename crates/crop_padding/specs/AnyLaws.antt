@@ -1,6 +1,5 @@
 -- Laws of a test at some number below a bound. Assumes nothing.
-use Prim.Native.Nat.{ℕ, zero, suc, _+_, _<_}
-use native.Mathlib.Numerals.{add-one}
+use Prim.Native.Nat.{ℕ, zero, suc, _<_}
 use native.Mathlib.Decide.{ℕ-discrete}
 use native.Mathlib.Omega.{arith}
 use mathlib.Core.Bool.{Bool, true, false, cond, false≢true}
@@ -8,15 +7,6 @@ use mathlib.Core.Path.{_≡_, refl, sym, ap, _∙_}
 use Rattle.crop_padding.specs.Below.{anyBelow}
 
 module _ (p : ℕ → Bool) where
-  pub any-none : anyBelow p 0 ≡ false
-  unfolding anyBelow
-  any-none = refl
-
-  -- a loop over the numbers: one more of which p does not hold, or one of which it holds
-  pub any-more : {n : ℕ} → p n ≡ false → anyBelow p n ≡ false → anyBelow p (n + 1) ≡ false
-  unfolding anyBelow
-  any-more {n} here before = rw (add-one, here) before
-
   any-above : (b : Bool) (n : ℕ) → anyBelow p n ≡ true → cond b true (anyBelow p n) ≡ true
   any-above true n e = refl
   any-above false n e = e
@@ -25,6 +15,7 @@ module _ (p : ℕ → Bool) where
   at-or-below {i} {n} (yes e) h here rest = ap (λ (b : Bool). cond b true (anyBelow p n)) (ap p (sym e) ∙ here)
   at-or-below {i} {n} (no other) h here rest = any-above (p n) n (rest (omega arith))
 
+  -- a number of which it holds
   pub any-found : {i : ℕ} (n : ℕ) → i < n → p i ≡ true → anyBelow p n ≡ true
   unfolding anyBelow
   any-found zero h here = absurd (omega arith)

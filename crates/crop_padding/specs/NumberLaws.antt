@@ -26,12 +26,6 @@ number-same p q zero same = refl
 number-same p q (suc n) same =
     ap₂ (λ (b : Bool) (m : ℕ). digit b * 2 ^ n + m) (same n (omega arith)) (number-same p q n λ k h. same k (omega arith))
 
--- clear bits make 0
-pub number-clear : (p : ℕ → Bool) (n : ℕ) → ((k : ℕ) → k < n → p k ≡ false) → number p n ≡ 0
-unfolding number
-number-clear p zero clear = refl
-number-clear p (suc n) clear = rw (clear n (omega arith)) (omega (arith, number-clear p n λ k h. clear k (omega arith)))
-
 -- the upper bits are a number of their own
 pub number-add : (p : ℕ → Bool) (n m : ℕ) → number p (n + m) ≡ number (λ k. p (n + k)) m * 2 ^ n + number p n
 unfolding number
@@ -88,7 +82,7 @@ pub test-shr : (m d k : ℕ) → testBit (m / 2 ^ d) k ≡ testBit m (d + k)
 unfolding testBit
 test-shr m d k = ap (λ (n : ℕ). not (eqb (n % 2) 0)) (shr-shr m d k)
 
--- a number with no remainder by 2 ^ n has its lowest n bits clear, and conversely
+-- a number with no remainder by 2 ^ n has its lowest n bits clear
 pub low-clear : (m n : ℕ) {j : ℕ} → m % 2 ^ n ≡ 0 → j < n → testBit m j ≡ false
 unfolding testBit
 low-clear m n {j} e h =
@@ -96,6 +90,3 @@ low-clear m n {j} e h =
     ap (λ (d : ℕ). not (eqb d 0))
     (sym (mod-mod-pow (m / 2 ^ j) (n - suc j) 1)
     ∙ ap (λ (d : ℕ). d % 2) (sym (field m (n - suc j + 1) j) ∙ ap (λ (d : ℕ). d / 2 ^ j) (ap (λ (s : ℕ). m % 2 ^ s) (sym places) ∙ e) ∙ zero-div (2 ^ j)))
-
-pub clear-low : (m n : ℕ) → ((j : ℕ) → j < n → testBit m j ≡ false) → m % 2 ^ n ≡ 0
-clear-low m n clear = sym (number-low m n) ∙ number-clear (testBit m) n clear
