@@ -55,7 +55,8 @@ same-length c = search needs
 
 returns-3 : tie.Need-returns-3
 returns-3 c =
-    let inside = c .before .before .before .before .before .in-words .ensures (c .before .before .before .before .if3 .taken) in
+    let asked = c .before .before .before .before in
+    let inside = asked .before .in-words .ensures (asked .if3 .taken) in
     search area-in-words
 
 area-by-pixels-requires : tie.Need-area-by-pixels-requires

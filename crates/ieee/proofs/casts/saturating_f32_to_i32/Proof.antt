@@ -43,7 +43,9 @@ whole-part-requires-2 c κs = (subst T (sym (c .before .if3 .taken)) tt, lt-wide
 
 small-2 : (c : tie.After-whole-part2) → c .whole-part2 .result < 2 ^ 31
 unfolding ofBits
-small-2 c = omega (arith, c .whole-part2 .ensures, unsigned-lt 32 31 (neg (c .before .before .before .before .args .x)) (c .before .if4 .taken))
+small-2 c =
+    let start = c .before .before .before .before in
+    omega (arith, c .whole-part2 .ensures, unsigned-lt 32 31 (neg (start .args .x)) (c .before .if4 .taken))
 
 cast-result-2 : tie.Need-cast-result-2
 cast-result-2 c = omega (arith, small-2 c)
