@@ -96,17 +96,7 @@ put-word l i k b h =
     ∙ ap₂ (λ (x y : List ℕ). x ++ y) front (drop-set-add n l k b ∙ inner)
     ∙ sym (append-assoc (take n l) (set (take 40 d) k b) (drop (n + 40) l))
 
--- a record in its own place
-pub put-same : (l : List ℕ) (i : ℕ) → put l i (get l i) ≡ l
-unfolding get put
-put-same l i =
-    let n : ℕ = 40 * i in
-    append-assoc (take n l) (take 40 (drop n l)) (drop (n + 40) l)
-    ∙ ap (λ (t : List ℕ). take n l ++ (take 40 (drop n l) ++ t)) (sym (drop-drop 40 n l))
-    ∙ ap (λ (t : List ℕ). take n l ++ t) (take-append-drop 40 (drop n l))
-    ∙ take-append-drop n l
-
-pub length-put : (l : List ℕ) (i : ℕ) (r : Record) → 40 * i + 40 ≤ length l → length r ≡ 40 → length (put l i r) ≡ length l
+length-put : (l : List ℕ) (i : ℕ) (r : Record) → 40 * i + 40 ≤ length l → length r ≡ 40 → length (put l i r) ≡ length l
 unfolding put
 length-put l i r h e = simp (length-append, length-take-le (40 * i) l (omega arith), length-drop, e) (omega arith)
 

@@ -1,13 +1,24 @@
 -- `records::copy` meets its contract. Assumes nothing.
-use Prim.Native.Nat.{ℕ}
+use Prim.Native.Nat.{ℕ, _+_, _*_}
 use mathlib.Core.Path.{_≡_, sym, ap, _∙_}
-use mathlib.Core.List.{List}
+use mathlib.Core.List.{List, _++_, append-assoc}
+use lib.ListN.{take, drop, take-append-drop}
+use lib.Seq.{drop-drop}
 use Rattle.records.specs.Records.{Record}
 use Rattle.records.specs.RecordsClauses.{get, put}
-use Rattle.records.specs.RecordsLaws.{put-same}
 use borrow.Author.Needs.{needs}
 use Rattle.records.proofs.copy.Statement.{statement}
 use Rattle.records.proofs.copy.Tie as tie
+
+-- a record in its own place
+put-same : (l : List ℕ) (i : ℕ) → put l i (get l i) ≡ l
+unfolding get put
+put-same l i =
+    let n : ℕ = 40 * i in
+    append-assoc (take n l) (take 40 (drop n l)) (drop (n + 40) l)
+    ∙ ap (λ (t : List ℕ). take n l ++ (take 40 (drop n l) ++ t)) (sym (drop-drop 40 n l))
+    ∙ ap (λ (t : List ℕ). take n l ++ t) (take-append-drop 40 (drop n l))
+    ∙ take-append-drop n l
 
 in-place : (l : List ℕ) (i j : ℕ) → i ≡ j → l ≡ put l j (get l i)
 in-place l i j e = sym (put-same l j) ∙ ap (λ (k : ℕ). put l j (get l k)) (sym e)
