@@ -42,7 +42,7 @@ pow-bit-above b k =
 pow-bit-below : (b j : ℕ) → b < j → 2 ^ b / 2 ^ j % 2 ≡ 0
 pow-bit-below b j h = ap (λ (n : ℕ). n % 2) (div-eq-of-lt (pow-lt h))
 
-pub test-set-same : (w b : ℕ) → testBit (setBit w b) b ≡ true
+test-set-same : (w b : ℕ) → testBit (setBit w b) b ≡ true
 unfolding testBit setBit
 test-set-same w b =
     ap (λ (n : ℕ). not (eqb n 0))
@@ -57,7 +57,7 @@ pow-bit-other b j other = go (decLt b j)
         let apart : suc (b - suc j) + j ≡ b = omega arith in
         ap (λ (n : ℕ). 2 ^ n / 2 ^ j % 2) (sym apart) ∙ pow-bit-above j (b - suc j)
 
-pub test-set-other : (w b j : ℕ) → j ≢ b → testBit (setBit w b) j ≡ testBit w j
+test-set-other : (w b j : ℕ) → j ≢ b → testBit (setBit w b) j ≡ testBit w j
 unfolding testBit setBit
 test-set-other w b j other =
     ap (λ (n : ℕ). not (eqb n 0))
@@ -132,7 +132,7 @@ mark-back ms i j h s = go (ℕ-discrete j i)
     go (no other) = ⊎-elim (λ b. bit-mark-other ms i j other ∙ b) (λ e. absurd (other e)) s
 
 -- a stored bit is set after the marks exactly when it was set before or is one of them
-pub marked-forth : (ms is : List ℕ) (j : ℕ) → bitAt (markAll ms is) j ≡ true → (bitAt ms j ≡ true) ⊎ List·Memᴰ j is
+marked-forth : (ms is : List ℕ) (j : ℕ) → bitAt (markAll ms is) j ≡ true → (bitAt ms j ≡ true) ⊎ List·Memᴰ j is
 unfolding markAll
 marked-forth ms [] j b = inl b
 marked-forth ms (i ∷ is) j b =
@@ -141,7 +141,7 @@ marked-forth ms (i ∷ is) j b =
     (λ m. inr (List·Memᴰ·tail m))
     (marked-forth (mark ms i) is j b)
 
-pub marked-back : (ms is : List ℕ) (j : ℕ) → j / 64 < length ms → (bitAt ms j ≡ true) ⊎ List·Memᴰ j is → bitAt (markAll ms is) j ≡ true
+marked-back : (ms is : List ℕ) (j : ℕ) → j / 64 < length ms → (bitAt ms j ≡ true) ⊎ List·Memᴰ j is → bitAt (markAll ms is) j ≡ true
 unfolding markAll
 marked-back ms [] j h s = ⊎-elim (λ b. b) (λ m. absurd (List·Memᴰ·not-nil m)) s
 marked-back ms (i ∷ is) j h s =
@@ -158,7 +158,7 @@ getD-zeros zero i = refl
 getD-zeros (suc n) zero = refl
 getD-zeros (suc n) (suc i) = getD-zeros n i
 
-pub bit-zeros : (n j : ℕ) → bitAt (zeros n) j ≡ false
+bit-zeros : (n j : ℕ) → bitAt (zeros n) j ≡ false
 unfolding bitAt
 bit-zeros n j = ap (λ (w : ℕ). testBit w (j % 64)) (getD-zeros n (j / 64)) ∙ test-zero (j % 64)
 
@@ -177,7 +177,7 @@ length-range i zero = refl
 length-range i (suc n) = ap suc (length-range (i + 1) n)
 
 -- a range in two parts
-pub range-split : (i m n : ℕ) → range i (m + n) ≡ range i m ++ range (i + m) n
+range-split : (i m n : ℕ) → range i (m + n) ≡ range i m ++ range (i + m) n
 unfolding range
 range-split i zero n =
     let none : 0 + n ≡ n = omega arith in

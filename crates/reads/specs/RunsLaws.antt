@@ -20,13 +20,13 @@ pub valueOf-bind : {A B : Type 0} (p : Reads A) (k : A → Reads B) (words : Lis
 unfolding valueOf
 valueOf-bind p k words = value-bind p k (bitAt words)
 
-pub marksOf-bind : {A B : Type 0} (p : Reads A) (k : A → Reads B) (words marks : List ℕ)
+marksOf-bind : {A B : Type 0} (p : Reads A) (k : A → Reads B) (words marks : List ℕ)
     → marksOf (p >>= k) words marks ≡ marksOf (k (valueOf p words)) words (marksOf p words marks)
 unfolding valueOf marksOf
 marksOf-bind p k words marks =
     ap (markAll marks) (trace-bind p k (bitAt words)) ∙ markAll-append marks (trace p (bitAt words)) (trace (k (value p (bitAt words))) (bitAt words))
 
-pub length-marksOf : {A : Type 0} (p : Reads A) (words marks : List ℕ) → length (marksOf p words marks) ≡ length marks
+length-marksOf : {A : Type 0} (p : Reads A) (words marks : List ℕ) → length (marksOf p words marks) ≡ length marks
 unfolding marksOf
 length-marksOf p words marks = length-markAll marks (trace p (bitAt words))
 
