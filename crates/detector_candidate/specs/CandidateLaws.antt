@@ -29,15 +29,11 @@ pub record Onward (width column : ℕ) (s : Searched) : Type 0 where
   pub inside : s .ended ≡ false → s .column < width - 6
 
 module _ {width start : ℕ} {eye : Bullseye} (closed : Closed start width eye) where
-  -- the radius fits left of the centre
-  pub radius-fits : 0 < start → eye .radius ≤ eye .center
-  radius-fits h = omega (arith, closed .after-start, closed .half)
-
   -- where a search goes on after a window that failed: at or right of its start, and left of its limit
-  pub quarter-after : start ≤ eye .center - eye .radius + eye .radius / 4
+  quarter-after : start ≤ eye .center - eye .radius + eye .radius / 4
   quarter-after = omega (arith, closed .after-start, closed .half, closed .eleven-pixels)
 
-  pub quarter-inside : eye .center - eye .radius + eye .radius / 4 < width - 6
+  quarter-inside : eye .center - eye .radius + eye .radius / 4 < width - 6
   quarter-inside = omega (arith, closed .before-limit)
 
   passed-onward : (row : ℕ) (vertical : List ℕ) → Onward width start (passed row eye vertical)

@@ -18,7 +18,6 @@ use Rattle.detector_columns.specs.ColumnsClauses.{verifyBullseyeVertical}
 use Rattle.detector_columns.specs.declared.Verified.{Verified}
 use Rattle.detector_candidate.specs.Candidate.{nothing, passed, failed, searchBy}
 use Rattle.detector_candidate.specs.CandidateClauses.{Searchable, searchFrom}
-use Rattle.detector_candidate.specs.CandidateLaws.{radius-fits}
 use Rattle.detector_candidate.specs.declared.Searched.{Searched}
 use Rattle.detector_candidate.proofs.search_from.Statement.{statement}
 use Rattle.detector_candidate.proofs.search_from.Tie as tie
@@ -33,8 +32,9 @@ module _ {words marks m₁ : List ℕ} (shape : Shape) (row column : ℕ) {eye :
     closed : Closed column (shape .width) eye
     closed = always-ran (always-closed shape row column) ran found
 
+    -- the radius fits left of the centre
     radius-left : eye .radius ≤ eye .center
-    radius-left = radius-fits closed (omega (arith, at .left))
+    radius-left = omega (arith, at .left, closed .after-start, closed .half)
 
     positive : 0 < eye .center
     positive = omega (arith, radius-left, closed .half, closed .eleven-pixels)
