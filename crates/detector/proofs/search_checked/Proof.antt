@@ -1,9 +1,63 @@
 -- `detector::search_checked` meets its contract: one lemma for each return. Assumes nothing.
+use Prim.Native.Nat.{ℕ, _≤_}
+use mathlib.Core.Bool.{_||_}
+use mathlib.Core.List.{List}
+use mathlib.Core.Path.{_≡_, sym, ap, ap₂, _∙_}
 use borrow.Author.Needs.{needs}
-use Rattle.crop.specs.CropLaws.{checked-rows}
-use Rattle.detector.specs.DetectorLaws.{file-refused, checked-accepted, file-size, file-image, file-room, file-searched}
+use lib.ListN.{length}
+use Rattle.bit_matrix.specs.declared.Shape.{Shape}
+use Rattle.bit_matrix.specs.Shape.{size, Image}
+use Rattle.crop_sizes.specs.Sizes.{misfit}
+use Rattle.crop_rows.specs.Unpack.{unpacked}
+use Rattle.crop_rows.specs.UnpackClauses.{FileAccepted}
+use Rattle.crop_rows.specs.UnpackLaws.{length-unpacked}
+use Rattle.crop.specs.Crop.{fileShape, image, noRoom, fileRefusal}
+use Rattle.crop.specs.CropClauses.{Checks, orSix, FileReady}
+use Rattle.crop.specs.CropLaws.{file-refusal-by, ready-shape, file-ready-by, checked-rows}
+use Rattle.crop.specs.declared.Checked.{Checked}
+use Rattle.detector.specs.Detector.{Run, run, refusedReport, acceptedRun, filed, fileRun}
+use Rattle.detector.specs.declared.Report.{Report}
+use Rattle.detector.specs.DetectorLaws.{is-refused, is-accepted}
 use Rattle.detector.proofs.search_checked.Statement.{statement}
 use Rattle.detector.proofs.search_checked.Tie as tie
+
+module _ (file words records marks : List ℕ) {c : Checked} (checks : Checks file c) {number : ℕ}
+    (is : number ≡ orSix (c .answer) (misfit (length words) (size (c .shape)) || noRoom (size (c .shape)) (length marks) (length records))) where
+  number-is : number ≡ fileRefusal file (length words) (length marks) (length records)
+  number-is = file-refusal-by checks (length words) (length marks) (length records) is
+
+  file-refused : {r : Report} → (number ≡ 0 → ⊥) → r ≡ refusedReport number → filed words (run r records marks) ≡ fileRun file words records marks
+  unfolding fileRun
+  file-refused some made =
+      ap (λ (x : Report). filed words (run x records marks)) made ∙ ap (λ (n : ℕ). filed words (run (refusedReport n) records marks)) number-is
+      ∙ is-refused _ _ λ e. some (number-is ∙ e)
+
+  module _ (none : number ≡ 0) where
+    ready : FileReady (c .shape) file words marks records
+    ready = file-ready-by checks words marks records is none
+
+    checked-accepted : FileAccepted (c .shape) file
+    checked-accepted = ready .accepted
+
+    file-size : length words ≡ size (c .shape)
+    file-size = ready .image .stored
+
+    file-room : 40 ≤ length records
+    file-room = ready .room
+
+    module _ {words′ : List ℕ} (stored : words′ ≡ unpacked file (c .shape)) where
+      file-image : Image (c .shape) words′ marks
+      file-image =
+          let long : length words′ ≡ size (c .shape) = ap length stored ∙ length-unpacked file (c .shape) in
+          record { limits = ready .image .limits; stored = long; sized = ready .image .sized ∙ ready .image .stored ∙ sym long }
+
+      file-searched : {left : Run} → left ≡ acceptedRun (c .shape) words′ records → filed words′ left ≡ fileRun file words records marks
+      unfolding fileRun
+      file-searched searched =
+          let shape-is : c .shape ≡ fileShape file = ready-shape checks words marks records is none in
+          let words-are : words′ ≡ image file = stored ∙ ap (unpacked file) shape-is in
+          ap₂ filed words-are (searched ∙ ap₂ (λ (s : Shape) (l : List ℕ). acceptedRun s l records) shape-is words-are)
+          ∙ is-accepted _ _ (sym number-is ∙ none)
 
 file-refusal-requires : tie.Need-file-refusal-requires
 file-refusal-requires c κs = search checked-rows
