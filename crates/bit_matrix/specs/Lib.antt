@@ -1,4 +1,5 @@
 pub mod Shape
+pub mod ShapeClauses
 pub mod ShapeLaws
 pub mod Pixels
 pub mod PixelsLaws

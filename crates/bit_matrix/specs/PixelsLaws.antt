@@ -15,7 +15,8 @@ use Rattle.reads.specs.BitsLaws.{bit-past, mark-past}
 use Rattle.reads.specs.RunsClauses.{Ran}
 use Rattle.reads.specs.RunsLaws.{ran-done, ran-read, ran-then, ran-else}
 use Rattle.bit_matrix.specs.declared.Shape.{Shape}
-use Rattle.bit_matrix.specs.Shape.{size, Limits, Inside}
+use Rattle.bit_matrix.specs.Shape.{size}
+use Rattle.bit_matrix.specs.ShapeClauses.{Limits, Inside}
 use Rattle.bit_matrix.specs.Pixels.{offset, pixel, tryGet}
 use Rattle.bit_matrix.specs.declared.Sample.the-variants.{Outside}
 

@@ -1,8 +1,5 @@
--- The shape of an image, its limits, when words and marks are an image of a shape, and when a pixel lies inside. Definitions only. Assumes nothing.
-use Prim.Native.Nat.{ℕ, _+_, _*_, _/_, _≤_, _<_}
-use mathlib.Core.List.{List}
-use mathlib.Core.Path.{_≡_}
-use lib.ListN.{length}
+-- The shape of an image. Definitions only. Assumes nothing.
+use Prim.Native.Nat.{ℕ, _+_, _*_, _/_}
 use Rattle.bit_matrix.specs.declared.Shape.{Shape}
 
 -- the words of a row with so many columns: ceil(width / 64)
@@ -15,23 +12,3 @@ shapeOf width height = record { «row_words» = rowWords width; width = width; h
 -- the words of all rows
 abbrev pub size : Shape → ℕ
 size shape = shape .«row_words» * shape .height
-
--- the shape of an image that is not refused; no entry takes a side below the least one here
-pub record Limits (shape : Shape) : Type 0 where
-  pub rows : shape .«row_words» ≡ rowWords (shape .width)
-  pub width-least : 33 ≤ shape .width
-  pub width-most : shape .width ≤ 2048
-  pub height-least : 33 ≤ shape .height
-  pub height-most : shape .height ≤ 2048
-  pub words-most : size shape ≤ 8000
-
--- words and marks are an image of this shape, within the limits
-pub record Image (shape : Shape) (words marks : List ℕ) : Type 0 where
-  pub limits : Limits shape
-  pub stored : length words ≡ size shape
-  pub sized : length marks ≡ length words
-
--- column x of row y lies inside the image
-pub record Inside (shape : Shape) (x y : ℕ) : Type 0 where
-  pub column : x < shape .width
-  pub row : y < shape .height

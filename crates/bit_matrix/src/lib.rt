@@ -3,7 +3,8 @@
 ghost use mathlib.Core.Path.{_≡_};
 ghost use lib.ListN.{length};
 ghost use Rattle.reads.specs.RunsClauses.{Ran};
-ghost use Rattle.bit_matrix.specs.Shape.{size, Limits, Image};
+ghost use Rattle.bit_matrix.specs.Shape.{size};
+ghost use Rattle.bit_matrix.specs.ShapeClauses.{Limits, Image};
 ghost use Rattle.bit_matrix.specs.Pixels.{offset, pixel, outOfRange, tryGet};
 
 // An image's rows, of `row_words` words each, and how many columns and rows it has.

@@ -14,7 +14,7 @@ use Rattle.reads.specs.RunsClauses.{Ran}
 use Rattle.reads.specs.RunsLaws.{ran-done, ran-bind, ran-then}
 use Rattle.bit_matrix.specs.declared.Shape.{Shape}
 use Rattle.bit_matrix.specs.Shape.{size}
-use Rattle.bit_matrix.specs.Shape as shapes
+use Rattle.bit_matrix.specs.ShapeClauses as shapes
 use Rattle.bit_matrix.specs.Pixels.{tryGet}
 use Rattle.bit_matrix.specs.PixelsLaws.{ran-pixel}
 use Rattle.bit_matrix_nine.specs.AreaWords.{setBits, CountedBits, threeOf, nineOf, InWords}

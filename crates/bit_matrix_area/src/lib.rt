@@ -4,7 +4,7 @@ use bit_matrix::Shape;
 ghost use mathlib.Core.Path.{_≡_};
 ghost use Prim.Native.Nat.{_+_, _-_, _^_, _≤_, _<_};
 ghost use Rattle.reads.specs.RunsClauses.{Ran};
-ghost use Rattle.bit_matrix.specs.Shape.{Image};
+ghost use Rattle.bit_matrix.specs.ShapeClauses.{Image};
 ghost use Rattle.bit_matrix_area.specs.Area.{column, box, countBlack, tryGetArea};
 
 // How many pixels are black, unless one of them lies outside.

@@ -6,7 +6,8 @@ use mathlib.Core.Path.{_≡_}
 use lib.Dec.{eqb}
 use lib.ListN.{length}
 use Rattle.bit_matrix.specs.declared.Shape.{Shape}
-use Rattle.bit_matrix.specs.Shape.{shapeOf, Image}
+use Rattle.bit_matrix.specs.Shape.{shapeOf}
+use Rattle.bit_matrix.specs.ShapeClauses.{Image}
 use Rattle.crop_padding.specs.Padding.{wordsPadded}
 use Rattle.crop_rows.specs.UnpackClauses.{FileAccepted}
 use Rattle.crop.specs.Crop.{fileShape, refusal}

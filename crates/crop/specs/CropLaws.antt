@@ -8,7 +8,8 @@ use borrow.Author.Tests.{ltb-false, eqb-true, eqb-false, eq-eqb, not-false}
 use lib.Dec.{eqb, ltb}
 use lib.ListN.{length}
 use Rattle.bit_matrix.specs.declared.Shape.{Shape}
-use Rattle.bit_matrix.specs.Shape.{rowWords, shapeOf, size, Limits}
+use Rattle.bit_matrix.specs.Shape.{rowWords, shapeOf, size}
+use Rattle.bit_matrix.specs.ShapeClauses.{Limits}
 use Rattle.crop_sizes.specs.ChainLaws.{chain}
 use Rattle.crop_sizes.specs.Sizes.{fileLength, leastSide, outside, misfit, imageRefusal}
 use Rattle.crop_sizes.specs.SizesLaws.{chain-past, both-fail, rows-of, image-within}

@@ -2,7 +2,8 @@
 use bit_matrix::Shape;
 ghost use mathlib.Core.Path.{_≡_};
 ghost use lib.ListN.{length};
-ghost use Rattle.bit_matrix.specs.Shape.{size, Limits};
+ghost use Rattle.bit_matrix.specs.Shape.{size};
+ghost use Rattle.bit_matrix.specs.ShapeClauses.{Limits};
 ghost use Rattle.crop_sizes.specs.Sizes.{fileLength};
 ghost use Rattle.crop_padding.specs.Padding.{filePadded, wordsPadded};
 

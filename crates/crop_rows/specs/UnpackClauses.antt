@@ -5,7 +5,7 @@ use mathlib.Core.List.{List}
 use mathlib.Core.Path.{_≡_}
 use lib.ListN.{length}
 use Rattle.bit_matrix.specs.declared.Shape.{Shape}
-use Rattle.bit_matrix.specs.Shape.{Limits}
+use Rattle.bit_matrix.specs.ShapeClauses.{Limits}
 use Rattle.crop_sizes.specs.Sizes.{fileLength}
 use Rattle.crop_padding.specs.Padding.{filePadded}
 

@@ -7,7 +7,8 @@ use mathlib.Core.Path.{_≡_, refl, subst⁻¹}
 use borrow.Author.Tests.{ltb-false, eqb-true, not-false}
 use lib.Dec.{ltb}
 use Rattle.bit_matrix.specs.declared.Shape.{Shape}
-use Rattle.bit_matrix.specs.Shape.{rowWords, shapeOf, size, Limits}
+use Rattle.bit_matrix.specs.Shape.{rowWords, shapeOf, size}
+use Rattle.bit_matrix.specs.ShapeClauses.{Limits}
 use Rattle.crop_sizes.specs.Sizes.{outside, misfit, imageRefusal}
 
 -- ---- a chain that is 0: none of its conditions holds

@@ -12,7 +12,7 @@ use lib.Seq.{length-take-le}
 use Rattle.reads.specs.Bits.{bitAt}
 use Rattle.reads.specs.Runs.{valueOf}
 use Rattle.bit_matrix.specs.declared.Shape.{Shape}
-use Rattle.bit_matrix.specs.Shape.{Limits}
+use Rattle.bit_matrix.specs.ShapeClauses.{Limits}
 use Rattle.crop_sizes.specs.ChainLaws.{chain-here, chain-next}
 use Rattle.crop.specs.Crop.{image, fileRefusal}
 use Rattle.crop.specs.CropLaws.{file-ready}

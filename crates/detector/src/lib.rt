@@ -2,7 +2,7 @@
 ghost use mathlib.Core.Path.{_≡_};
 ghost use Prim.Native.Nat.{_≤_};
 ghost use lib.ListN.{length};
-ghost use Rattle.bit_matrix.specs.Shape.{Image};
+ghost use Rattle.bit_matrix.specs.ShapeClauses.{Image};
 ghost use Rattle.crop.specs.CropClauses.{Checks};
 ghost use Rattle.detector.specs.Detector.{run, reportOf, refusedReport, acceptedRun, wordsRun, filed, fileRun};
 use bit_matrix::Shape;

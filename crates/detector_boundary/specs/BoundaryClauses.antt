@@ -4,7 +4,7 @@ use lib.Dec.{T}
 use lib.IntN.{ℤ, natAbs}
 use lib.Signed.{nonNeg}
 use Rattle.bit_matrix.specs.declared.Shape.{Shape}
-use Rattle.bit_matrix.specs.Shape.{Limits, Inside}
+use Rattle.bit_matrix.specs.ShapeClauses.{Limits, Inside}
 use Rattle.rxing_result_point.specs.declared.PointU.{PointU}
 use Rattle.detector_boundary.specs.declared.Boundary.{Boundary}
 

@@ -6,7 +6,7 @@ use lib.ListN.{length, getD}
 use Rattle.reads.specs.Reads.{Reads}
 use Rattle.reads.specs.Runs.{valueOf, marksOf}
 use Rattle.bit_matrix.specs.declared.Shape.{Shape}
-use Rattle.bit_matrix.specs.Shape.{Inside}
+use Rattle.bit_matrix.specs.ShapeClauses.{Inside}
 use Rattle.records.specs.Fields as field
 use Rattle.records.specs.Records.{Record, rows}
 use Rattle.records.specs.RecordsClauses.{Became, Each}

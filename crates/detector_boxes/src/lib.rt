@@ -3,7 +3,7 @@ ghost use lib.ListN.{length};
 ghost use Rattle.reads.specs.RunsClauses.{Ran};
 ghost use Rattle.sines.specs.Sines.{sines};
 ghost use mathlib.Core.Path.{_≡_};
-ghost use Rattle.bit_matrix.specs.Shape.{Image};
+ghost use Rattle.bit_matrix.specs.ShapeClauses.{Image};
 ghost use Rattle.records.specs.Records.{rows};
 ghost use Rattle.detector_boxes.specs.Boxing.{boxed, boxedAll};
 ghost use Rattle.detector_boxes.specs.BoxingClauses.{Boxable, AllBoxable, Boxed};

@@ -2,7 +2,7 @@
 use Prim.Native.Nat.{ℕ, _-_, _≤_, _<_}
 use Rattle.reads.specs.Reads.{Reads}
 use Rattle.bit_matrix.specs.declared.Shape.{Shape}
-use Rattle.bit_matrix.specs.Shape.{Inside}
+use Rattle.bit_matrix.specs.ShapeClauses.{Inside}
 use Rattle.detector_widths.specs.Widths.{validWidths}
 use Rattle.detector_candidate.specs.declared.Searched.{Searched}
 use Rattle.detector_candidate.specs.Candidate.{searchBy}

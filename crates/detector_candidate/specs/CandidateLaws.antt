@@ -12,7 +12,7 @@ use Rattle.reads.specs.BitsLaws.{getD-zeros}
 use Rattle.records.specs.Fields as field
 use Rattle.records.specs.Records.{Record}
 use Rattle.bit_matrix.specs.declared.Shape.{Shape}
-use Rattle.bit_matrix.specs.Shape.{Limits, Inside}
+use Rattle.bit_matrix.specs.ShapeClauses.{Limits, Inside}
 use Rattle.detector_widths.specs.WidthsF32.{validWidthsF32}
 use Rattle.detector_first_window.specs.FirstWindowLaws.{Closed}
 use Rattle.detector_rows.specs.RowsLaws.{always-closed, same-rows-f32}

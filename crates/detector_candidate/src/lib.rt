@@ -4,7 +4,7 @@ ghost use mathlib.Core.List.{_++_};
 ghost use Prim.Native.Nat.{_+_, _^_, _≤_, _<_};
 ghost use lib.ListN.{take, drop};
 ghost use Rattle.reads.specs.RunsClauses.{Ran};
-ghost use Rattle.bit_matrix.specs.Shape.{Image};
+ghost use Rattle.bit_matrix.specs.ShapeClauses.{Image};
 ghost use Rattle.detector_candidate.specs.Candidate.{candidateOf, nothing, passed, failed};
 ghost use Rattle.detector_candidate.specs.CandidateClauses.{Searchable, searchFrom};
 use bit_matrix::Shape;

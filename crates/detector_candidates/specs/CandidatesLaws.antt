@@ -13,7 +13,7 @@ use Rattle.reads.specs.ReadsLaws.{Always, Same, always-done, always-bind, alway
 use Rattle.records.specs.Records.{Record}
 use Rattle.records.specs.RecordsClauses.{Each}
 use Rattle.bit_matrix.specs.declared.Shape.{Shape}
-use Rattle.bit_matrix.specs.Shape.{Limits}
+use Rattle.bit_matrix.specs.ShapeClauses.{Limits}
 use Rattle.detector_widths.specs.WidthsF32.{validWidthsF32}
 use Rattle.detector_candidates.specs.Candidates.{after, rowBy, rowsBy, concentricCirclesBy, concentricCircles}
 use Rattle.detector_candidate.specs.CandidateClauses.{Searchable}

@@ -1,6 +1,6 @@
 // `find_concentric_circles` of detector.rs: the candidates of an image, into the record buffer that stands for the source's vector of circles.
 ghost use Prim.Native.Nat.{_<_};
-ghost use Rattle.bit_matrix.specs.Shape.{Image};
+ghost use Rattle.bit_matrix.specs.ShapeClauses.{Image};
 ghost use Rattle.records.specs.Records.{rows};
 ghost use Rattle.detector_candidates.specs.Candidates.{after, concentricCircles};
 ghost use Rattle.detector_candidates.specs.CandidatesClauses.{rowFrom, Room, Stored, Listed};

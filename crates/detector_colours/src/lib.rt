@@ -5,7 +5,7 @@ use rxing_result_point::Point;
 use sines::Angle;
 ghost use mathlib.Core.Path.{_≡_};
 ghost use Rattle.reads.specs.RunsClauses.{Ran};
-ghost use Rattle.bit_matrix.specs.Shape.{Image};
+ghost use Rattle.bit_matrix.specs.ShapeClauses.{Image};
 ghost use Rattle.detector_colours.specs.Colours.{rightColour, testDegree};
 ghost use Rattle.detector_colours.specs.Looks.{lookPast, lookOffset};
 

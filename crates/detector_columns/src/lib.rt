@@ -4,7 +4,7 @@ ghost use mathlib.Core.Path.{_≡_};
 ghost use Prim.Native.Nat.{_+_, _^_, _≤_, _<_};
 ghost use lib.ListN.{getD};
 ghost use Rattle.reads.specs.RunsClauses.{Ran};
-ghost use Rattle.bit_matrix.specs.Shape.{Image};
+ghost use Rattle.bit_matrix.specs.ShapeClauses.{Image};
 ghost use Rattle.detector_columns.specs.Columns.{pointerAfter, rowAfter, columnVector, potentialBullseyeArray};
 ghost use Rattle.detector_columns.specs.ColumnsClauses.{tryColumn, verifyBullseyeVertical};
 

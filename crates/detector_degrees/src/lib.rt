@@ -6,7 +6,7 @@ use rxing_result_point::PointU;
 ghost use mathlib.Core.Path.{_≡_};
 ghost use Prim.Native.Nat.{_<_};
 ghost use Rattle.reads.specs.RunsClauses.{Ran};
-ghost use Rattle.bit_matrix.specs.Shape.{Image};
+ghost use Rattle.bit_matrix.specs.ShapeClauses.{Image};
 ghost use Rattle.sines.specs.Sines.{sines};
 ghost use Rattle.detector_colours.specs.Looks.{lookOffset};
 ghost use Rattle.detector_degrees.specs.Degrees.{degreesFrom, tryDegrees};

@@ -14,7 +14,8 @@ use Rattle.reads.specs.BitsLaws.{length-markAll, range-join, range-last}
 use Rattle.reads.specs.RunsClauses.{Resumes}
 use Rattle.reads.specs.RunsLaws.{ran-done, resumes-start, resumes-end}
 use Rattle.bit_matrix.specs.declared.Shape.{Shape}
-use Rattle.bit_matrix.specs.Shape.{size, Limits}
+use Rattle.bit_matrix.specs.Shape.{size}
+use Rattle.bit_matrix.specs.ShapeClauses.{Limits}
 use Rattle.bit_runs.specs.BitRuns.{rowBit, Changes}
 use Rattle.bit_runs.specs.ChangesLaws.{changes-fewer, same-until, changes-at, changes-after}
 use Rattle.reads.specs.Total.{total}

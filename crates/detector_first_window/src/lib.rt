@@ -4,7 +4,8 @@ use detector_window::Bullseye;
 ghost use mathlib.Core.Path.{_≡_};
 ghost use Prim.Native.Nat.{_+_, _-_, _*_, _%_, _^_, _≤_, _<_, min};
 ghost use lib.ListN.{length};
-ghost use Rattle.bit_matrix.specs.Shape.{size, Limits};
+ghost use Rattle.bit_matrix.specs.Shape.{size};
+ghost use Rattle.bit_matrix.specs.ShapeClauses.{Limits};
 ghost use Rattle.detector_first_window.specs.FirstWindowClauses.{Swept};
 
 // The first word of a row. A row's words after it fit too.

@@ -12,9 +12,9 @@ use Rattle.detector_kept.specs.Retain.{near, retain}
 use Rattle.detector_kept.specs.KeptClauses.{Retained, Candidates, KeptAndRanked}
 use Rattle.detector_variances.specs.Variances.{withVariance}
 use Rattle.detector_rank.specs.Rank.{rank}
-use Rattle.detector_variances.specs.VariancesClauses.{Small, PlainVariance}
+use Rattle.detector_variances.specs.VariancesClauses.{Small, UnsignedVariance}
 use Rattle.detector_rank.specs.RankClauses.{Rankable}
-use Rattle.detector_variances.specs.VariancesLaws.{varied-plain}
+use Rattle.detector_variances.specs.VariancesLaws.{varied-unsigned}
 use Rattle.detector_kept.specs.Kept.{ranked}
 use Rattle.detector_kept.specs.declared.Spread.{Spread}
 
@@ -28,7 +28,7 @@ module _ {found : ℕ} {l₀ : List ℕ} (held : Candidates found l₀) {s : Spr
     held = omega arith;
     numbers =
         rw (varied .records)
-        (each-map (λ (r : Record). (length r ≡ 40) × Small r) PlainVariance withVariance varied-plain (rows kept l₁)
+        (each-map (λ (r : Record). (length r ≡ 40) × Small r) UnsignedVariance withVariance varied-unsigned (rows kept l₁)
         (each-both (λ (r : Record). length r ≡ 40) Small (rows kept l₁) (rows-whole kept l₁ room) small));
   }
 

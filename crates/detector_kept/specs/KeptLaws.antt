@@ -12,9 +12,9 @@ use Rattle.records.specs.RecordsLaws.{rows-whole, each-both, each-filter, each-
 use Rattle.detector_sort.specs.SortLaws.{Sorted, permutes-length, sort-each}
 use Rattle.detector_variances.specs.Variances.{withVariance}
 use Rattle.detector_rank.specs.Rank.{lower, rank}
-use Rattle.detector_variances.specs.VariancesClauses.{Small, PlainVariance}
+use Rattle.detector_variances.specs.VariancesClauses.{Small, UnsignedVariance}
 use Rattle.detector_rank.specs.RankLaws.{rank-ranks}
-use Rattle.detector_variances.specs.VariancesLaws.{varied-plain}
+use Rattle.detector_variances.specs.VariancesLaws.{varied-unsigned}
 use Rattle.detector_kept.specs.declared.Spread.{Spread}
 use Rattle.detector_kept.specs.Spread.{spread}
 use Rattle.detector_kept.specs.Retain.{near, retain}
@@ -53,5 +53,5 @@ unfolding ranked
 ranked-sorted found records held =
     let rs : List Record = rows found records in
     rank-ranks (map withVariance (retain (spread rs) rs)) .sorted
-    (each-varied (λ (r : Record). (length r ≡ 40) × Small r) PlainVariance varied-plain (spread rs) rs
+    (each-varied (λ (r : Record). (length r ≡ 40) × Small r) UnsignedVariance varied-unsigned (spread rs) rs
     (each-both (λ (r : Record). length r ≡ 40) Small rs (rows-whole found records (held .held)) (held .small)))

@@ -4,7 +4,7 @@ use detector_window::Bullseye;
 ghost use mathlib.Core.Path.{_≡_};
 ghost use Prim.Native.Nat.{_+_, _-_, _*_, max};
 ghost use Rattle.reads.specs.RunsClauses.{Ran};
-ghost use Rattle.bit_matrix.specs.Shape.{Limits, Image};
+ghost use Rattle.bit_matrix.specs.ShapeClauses.{Limits, Image};
 ghost use Rattle.bit_runs.specs.BitRuns.{rowBit, FirstBlack};
 ghost use Rattle.detector_first_window.specs.FirstWindowClauses.{readTo};
 ghost use Rattle.detector_rows.specs.RowsClauses.{nextBullseye};

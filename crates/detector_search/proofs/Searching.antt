@@ -12,7 +12,7 @@ use Rattle.reads.specs.Runs.{valueOf}
 use Rattle.reads.specs.RunsClauses.{Ran}
 use Rattle.reads.specs.RunsLaws.{ran-done, ran-bind, always-ran}
 use Rattle.bit_matrix.specs.declared.Shape.{Shape}
-use Rattle.bit_matrix.specs.Shape.{Image}
+use Rattle.bit_matrix.specs.ShapeClauses.{Image}
 use Rattle.records.specs.Fields as field
 use Rattle.records.specs.Records.{Record, rows, flat, laidOut}
 use Rattle.records.specs.RecordsClauses.{Each}

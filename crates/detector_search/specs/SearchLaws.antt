@@ -5,7 +5,7 @@ use mathlib.Core.Path.{_≡_, sym, _∙_}
 use lib.ListN.{length}
 use Rattle.reads.specs.ReadsLaws.{Always, always-done, always-bind}
 use Rattle.bit_matrix.specs.declared.Shape.{Shape}
-use Rattle.bit_matrix.specs.Shape.{Limits}
+use Rattle.bit_matrix.specs.ShapeClauses.{Limits}
 use Rattle.records.specs.Records.{Record}
 use Rattle.records.specs.RecordsClauses.{Each}
 use Rattle.detector_candidate.specs.CandidateLaws.{Candidate}

@@ -1,5 +1,5 @@
 // `detect` of detector.rs up to the box, in three parts: the sweep, the verdict on its candidates, and the box and turn of each kept record.
-ghost use Rattle.bit_matrix.specs.Shape.{Image};
+ghost use Rattle.bit_matrix.specs.ShapeClauses.{Image};
 ghost use Rattle.detector_candidates.specs.CandidatesClauses.{Room};
 ghost use Rattle.detector_search.specs.Search.{searchAt};
 ghost use Rattle.detector_search.specs.SearchClauses.{Sought};

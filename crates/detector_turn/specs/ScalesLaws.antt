@@ -10,7 +10,7 @@ use lib.Ieee.{Float, binary32, ofInt, toBits}
 use Rattle.reads.specs.Reads.{Reads, done}
 use Rattle.reads.specs.ReadsLaws.{Always, always-done, always-bind, always-after, always-cond}
 use Rattle.bit_matrix.specs.declared.Shape.{Shape}
-use Rattle.bit_matrix.specs.Shape.{Inside}
+use Rattle.bit_matrix.specs.ShapeClauses.{Inside}
 use Rattle.rxing_result_point.specs.declared.PointU.{PointU}
 use Rattle.rxing_result_point.specs.Points.{real}
 use Rattle.detector_boundary.specs.BoundaryClauses.{Centered}

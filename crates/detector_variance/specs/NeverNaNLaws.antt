@@ -1,4 +1,4 @@
--- The variance of small runs is a number, and not negative (`variance-plain`). Assumes nothing.
+-- The variance of small runs is a number, and not negative (`variance-unsigned`). Assumes nothing.
 use Prim.Native.Nat.{ℕ, zero, suc, _+_, _-_, _*_, _/_, _^_, _≤_, _<_}
 use native.Mathlib.Nat.{mul-le-mul, mul-pos, le-of-lt, le-of-eq}
 use native.Mathlib.Omega.{arith}
@@ -30,10 +30,10 @@ use Rattle.detector_variance.specs.Variance.{
 }
 
 -- not a NaN, and its sign is positive
-unfoldable pub plain : Float → Bool
-plain nan = false
-plain (inf s) = not s
-plain (fin s m e) = not s
+unfoldable pub unsigned : Float → Bool
+unsigned nan = false
+unsigned (inf s) = not s
+unsigned (fin s m e) = not s
 
 -- ---- a rounded value is an infinity or finite, with the sign that it was given
 
@@ -58,9 +58,9 @@ exists nan = false
 exists (inf s) = true
 exists (fin s m e) = true
 
-round-plain : (f : Format) (a b : ℕ) → plain (round f false a b) ≡ true
-unfolding plain
-round-plain f a b = round-shape (λ (x : Float). plain x ≡ true) false refl (λ m e. refl) f a b
+round-unsigned : (f : Format) (a b : ℕ) → unsigned (round f false a b) ≡ true
+unfolding unsigned
+round-unsigned f a b = round-shape (λ (x : Float). unsigned x ≡ true) false refl (λ m e. refl) f a b
 
 round-exists : (f : Format) (s : Bool) (a b : ℕ) → exists (round f s a b) ≡ true
 unfolding exists
@@ -78,8 +78,8 @@ module _ (f : Format) where
       (λ _. either (λ (x : Float). exists x ≡ true) (ltb a b) (round f t (b - a) c) (round f (s && ltb b a) (a - b) c)
       (λ _. round-exists f t (b - a) c) (λ _. round-exists f (s && ltb b a) (a - b) c))
 
-  sub-exists : (x y : Float) → plain x ≡ true → plain y ≡ true → (finite x || finite y) ≡ true → exists (sub f x y) ≡ true
-  unfolding plain sub exists
+  sub-exists : (x y : Float) → unsigned x ≡ true → unsigned y ≡ true → (finite x || finite y) ≡ true → exists (sub f x y) ≡ true
+  unfolding unsigned sub exists
   sub-exists nan y px py one = absurd (true≢false (sym px))
   sub-exists (inf s) nan px py one = absurd (true≢false (sym py))
   sub-exists (inf s) (inf t) px py one = absurd (true≢false (sym one))
@@ -88,38 +88,38 @@ module _ (f : Format) where
   sub-exists (fin s m e) (inf t) px py one = refl
   sub-exists (fin s m e) (fin t n d) px py one = sum-exists s (m * up e * down d) (not t) (n * up d * down e) (down e * down d)
 
-  add-plain : (x y : Float) → plain x ≡ true → plain y ≡ true → plain (add f x y) ≡ true
-  unfolding plain add sum
-  add-plain nan y px py = absurd (true≢false (sym px))
-  add-plain (inf true) y px py = absurd (true≢false (sym px))
-  add-plain (inf false) nan px py = absurd (true≢false (sym py))
-  add-plain (inf false) (inf true) px py = absurd (true≢false (sym py))
-  add-plain (inf false) (inf false) px py = refl
-  add-plain (inf false) (fin t n d) px py = refl
-  add-plain (fin true m e) y px py = absurd (true≢false (sym px))
-  add-plain (fin false m e) nan px py = absurd (true≢false (sym py))
-  add-plain (fin false m e) (inf t) px py = py
-  add-plain (fin false m e) (fin true n d) px py = absurd (true≢false (sym py))
-  add-plain (fin false m e) (fin false n d) px py = round-plain f _ _
+  add-unsigned : (x y : Float) → unsigned x ≡ true → unsigned y ≡ true → unsigned (add f x y) ≡ true
+  unfolding unsigned add sum
+  add-unsigned nan y px py = absurd (true≢false (sym px))
+  add-unsigned (inf true) y px py = absurd (true≢false (sym px))
+  add-unsigned (inf false) nan px py = absurd (true≢false (sym py))
+  add-unsigned (inf false) (inf true) px py = absurd (true≢false (sym py))
+  add-unsigned (inf false) (inf false) px py = refl
+  add-unsigned (inf false) (fin t n d) px py = refl
+  add-unsigned (fin true m e) y px py = absurd (true≢false (sym px))
+  add-unsigned (fin false m e) nan px py = absurd (true≢false (sym py))
+  add-unsigned (fin false m e) (inf t) px py = py
+  add-unsigned (fin false m e) (fin true n d) px py = absurd (true≢false (sym py))
+  add-unsigned (fin false m e) (fin false n d) px py = round-unsigned f _ _
 
-  div-plain : (x : Float) (n : ℕ) (d : ℤ) → plain x ≡ true → plain (div f x (fin false (suc n) d)) ≡ true
-  unfolding plain div
-  div-plain nan n d px = absurd (true≢false (sym px))
-  div-plain (inf true) n d px = absurd (true≢false (sym px))
-  div-plain (inf false) n d px = refl
-  div-plain (fin true m e) n d px = absurd (true≢false (sym px))
-  div-plain (fin false m e) n d px = rw (eqb·suc-zero n) (round-plain f _ _)
+  div-unsigned : (x : Float) (n : ℕ) (d : ℤ) → unsigned x ≡ true → unsigned (div f x (fin false (suc n) d)) ≡ true
+  unfolding unsigned div
+  div-unsigned nan n d px = absurd (true≢false (sym px))
+  div-unsigned (inf true) n d px = absurd (true≢false (sym px))
+  div-unsigned (inf false) n d px = refl
+  div-unsigned (fin true m e) n d px = absurd (true≢false (sym px))
+  div-unsigned (fin false m e) n d px = rw (eqb·suc-zero n) (round-unsigned f _ _)
 
-abs-plain : (x : Float) → exists x ≡ true → plain (abs x) ≡ true
-unfolding plain exists abs
-abs-plain nan e = absurd (true≢false (sym e))
-abs-plain (inf s) e = refl
-abs-plain (fin s m e′) e = refl
+abs-unsigned : (x : Float) → exists x ≡ true → unsigned (abs x) ≡ true
+unfolding unsigned exists abs
+abs-unsigned nan e = absurd (true≢false (sym e))
+abs-unsigned (inf s) e = refl
+abs-unsigned (fin s m e′) e = refl
 
 -- ---- runs and areas are finite
 
-under : (x y : Float) → plain x ≡ true → T (finite y) → T (le x y) → finite x ≡ true
-unfolding plain le
+under : (x y : Float) → unsigned x ≡ true → T (finite y) → T (le x y) → finite x ≡ true
+unfolding unsigned le
 under nan y px fy h = absurd (true≢false (sym px))
 under (inf true) y px fy h = absurd (true≢false (sym px))
 under (inf false) nan px fy h = absurd fy
@@ -127,14 +127,14 @@ under (inf false) (inf t) px fy h = absurd fy
 under (inf false) (fin t n d) px fy h = absurd h
 under (fin s m e) y px fy h = refl
 
-real-plain : (n : ℕ) → plain (real n) ≡ true
+real-unsigned : (n : ℕ) → unsigned (real n) ≡ true
 unfolding ofInt
-real-plain n = round-plain binary32 n 1
+real-unsigned n = round-unsigned binary32 n 1
 
 real-finite : (n : ℕ) → n ≤ 2 ^ 30 → finite (real n) ≡ true
 unfolding ofInt round
 real-finite n h =
-    under (real n) (real (2 ^ 30)) (real-plain n) tt (round-mono binary32 n 1 (2 ^ 30) 1 (omega arith) (omega arith) (omega arith))
+    under (real n) (real (2 ^ 30)) (real-unsigned n) tt (round-mono binary32 n 1 (2 ^ 30) 1 (omega arith) (omega arith) (omega arith))
 
 real-most : (n : ℕ) → n ≤ 2 ^ 30 → T (le (real n) (fin false 1 (pos 30)))
 unfolding ofInt round
@@ -144,30 +144,30 @@ finite-bound : T (finite (round binary32 false (2 ^ 30 * 13176795) (2 ^ 22)))
 unfolding round
 finite-bound = tt
 
-further-plain : (expected acc : Float) (n : ℕ) → plain expected ≡ true → plain acc ≡ true → n < 65536 → plain (further expected acc n) ≡ true
+further-unsigned : (expected acc : Float) (n : ℕ) → unsigned expected ≡ true → unsigned acc ≡ true → n < 65536 → unsigned (further expected acc n) ≡ true
 unfolding further
-further-plain expected acc n pe pa h =
-    add-plain binary32 acc _ pa (abs-plain _
-    (sub-exists binary32 expected (real n) pe (real-plain n) (or-true (finite expected) (real-finite n (omega arith)))))
+further-unsigned expected acc n pe pa h =
+    add-unsigned binary32 acc _ pa (abs-unsigned _
+    (sub-exists binary32 expected (real n) pe (real-unsigned n) (or-true (finite expected) (real-finite n (omega arith)))))
   where
     or-true : (a : Bool) {b : Bool} → b ≡ true → (a || b) ≡ true
     or-true true e = refl
     or-true false e = e
 
-zero-plain : plain (ofBits binary32 0) ≡ true
-unfolding plain ofBits
-zero-plain = refl
+zero-unsigned : unsigned (ofBits binary32 0) ≡ true
+unfolding unsigned ofBits
+zero-unsigned = refl
 
-module _ (t h : List ℕ) (short : (k : ℕ) → getD h k 0 < 65536) (expected : Float) (pe : plain expected ≡ true) where
-  total-plain : (i : ℕ) → plain (varianceTo t h expected i) ≡ true
+module _ (t h : List ℕ) (short : (k : ℕ) → getD h k 0 < 65536) (expected : Float) (pe : unsigned expected ≡ true) where
+  total-unsigned : (i : ℕ) → unsigned (varianceTo t h expected i) ≡ true
   unfolding varianceTo
-  total-plain zero = zero-plain
-  total-plain (suc i) =
-      either (λ (x : Float). plain x ≡ true) (takes t i) _ _ (λ _. further-plain expected _ _ pe (total-plain i) (short i)) (λ _. total-plain i)
+  total-unsigned zero = zero-unsigned
+  total-unsigned (suc i) =
+      either (λ (x : Float). unsigned x ≡ true) (takes t i) _ _ (λ _. further-unsigned expected _ _ pe (total-unsigned i) (short i)) (λ _. total-unsigned i)
 
-module-plain : (t h v : List ℕ) → plain (tenthOfWidth t h v) ≡ true
+module-unsigned : (t h v : List ℕ) → unsigned (tenthOfWidth t h v) ≡ true
 unfolding tenthOfWidth ofBits
-module-plain t h v = div-plain binary32 (real (widthTo t h v 11)) 4 (pos 1) (real-plain (widthTo t h v 11))
+module-unsigned t h v = div-unsigned binary32 (real (widthTo t h v 11)) 4 (pos 1) (real-unsigned (widthTo t h v 11))
 
 -- ---- the areas
 
@@ -175,12 +175,12 @@ module-plain t h v = div-plain binary32 (real (widthTo t h v 11)) 4 (pos 1) (rea
 abbrev π : Float
 π = fin false 13176795 (negsuc 21)
 
-scaled-plain : (x : Float) → plain x ≡ true → finite x ≡ true → plain (mul binary32 x π) ≡ true
-unfolding plain mul
-scaled-plain nan px fx = absurd (true≢false (sym px))
-scaled-plain (inf s) px fx = absurd (true≢false (sym fx))
-scaled-plain (fin true m e) px fx = absurd (true≢false (sym px))
-scaled-plain (fin false m e) px fx = round-plain binary32 (m * up e * (13176795 * up (negsuc 21))) (down e * down (negsuc 21))
+scaled-unsigned : (x : Float) → unsigned x ≡ true → finite x ≡ true → unsigned (mul binary32 x π) ≡ true
+unfolding unsigned mul
+scaled-unsigned nan px fx = absurd (true≢false (sym px))
+scaled-unsigned (inf s) px fx = absurd (true≢false (sym fx))
+scaled-unsigned (fin true m e) px fx = absurd (true≢false (sym px))
+scaled-unsigned (fin false m e) px fx = round-unsigned binary32 (m * up e * (13176795 * up (negsuc 21))) (down e * down (negsuc 21))
 
 at-most : (a b : ℕ) (t : Bool) → T (ltb a b || (eqb a b && t)) → a ≤ b
 at-most a b t = go (ltb a b) (λ (u : T (ltb a b)). le-of-lt (ltb→lt a b u))
@@ -190,14 +190,14 @@ at-most a b t = go (ltb a b) (λ (u : T (ltb a b)). le-of-lt (ltb→lt a b u))
     go false less u = le-of-eq (eqb→eq a b (and-l (eqb a b) t u))
 
 -- 2 ^ 30 times π is far from an infinity
-scaled-finite : (x : Float) → plain x ≡ true → finite x ≡ true → T (le x (fin false 1 (pos 30))) → finite (mul binary32 x π) ≡ true
-unfolding plain mul le
+scaled-finite : (x : Float) → unsigned x ≡ true → finite x ≡ true → T (le x (fin false 1 (pos 30))) → finite (mul binary32 x π) ≡ true
+unfolding unsigned mul le
 scaled-finite nan px fx h = absurd (true≢false (sym px))
 scaled-finite (inf s) px fx h = absurd (true≢false (sym fx))
 scaled-finite (fin true m e) px fx h = absurd (true≢false (sym px))
 scaled-finite (fin false m e) px fx h =
     let most : m * up e * 1 ≤ 1 * 2 ^ 30 * down e = at-most (m * up e * 1) (1 * 2 ^ 30 * down e) true h in
-    under (mul binary32 (fin false m e) π) (round binary32 false (2 ^ 30 * 13176795) (2 ^ 22)) (scaled-plain (fin false m e) px fx) bound
+    under (mul binary32 (fin false m e) π) (round binary32 false (2 ^ 30 * 13176795) (2 ^ 22)) (scaled-unsigned (fin false m e) px fx) bound
     (round-mono binary32 (m * up e * 13176795) (down e * 2 ^ 22) (2 ^ 30 * 13176795) (2 ^ 22) (mul-pos (down-pos e) (omega arith)) (omega arith) (omega arith))
   where
     bound : T (finite (round binary32 false (2 ^ 30 * 13176795) (2 ^ 22)))
@@ -217,36 +217,36 @@ module _ (n : ℕ) (small : n < 65536) where
   unfolding expectedArea square ofBits
   area-is = refl
 
-  area-plain : plain (expectedArea n) ≡ true
-  area-plain = rw area-is (scaled-plain (real square) (real-plain square) (real-finite square square-small))
+  area-unsigned : unsigned (expectedArea n) ≡ true
+  area-unsigned = rw area-is (scaled-unsigned (real square) (real-unsigned square) (real-finite square square-small))
 
   area-finite : finite (expectedArea n) ≡ true
-  area-finite = rw area-is (scaled-finite (real square) (real-plain square) (real-finite square square-small) (real-most square square-small))
+  area-finite = rw area-is (scaled-finite (real square) (real-unsigned square) (real-finite square square-small) (real-most square square-small))
 
 -- ---- how far the areas are from their mean, and the whole
 
-circle-plain : (a b : Float) → plain a ≡ true → finite a ≡ true → plain b ≡ true → finite b ≡ true → plain (areaVariance a b) ≡ true
+circle-unsigned : (a b : Float) → unsigned a ≡ true → finite a ≡ true → unsigned b ≡ true → finite b ≡ true → unsigned (areaVariance a b) ≡ true
 unfolding areaVariance ofBits
-circle-plain a b pa fa pb fb =
+circle-unsigned a b pa fa pb fb =
     let mean : Float = div binary32 (add binary32 a b) (fin false 1 (pos 1)) in
-    let pm : plain mean ≡ true = div-plain binary32 (add binary32 a b) 0 (pos 1) (add-plain binary32 a b pa pb) in
-    add-plain binary32 (abs (sub binary32 a mean)) (abs (sub binary32 b mean))
-    (abs-plain (sub binary32 a mean) (sub-exists binary32 a mean pa pm (rw fa)))
-    (abs-plain (sub binary32 b mean) (sub-exists binary32 b mean pb pm (rw fb)))
+    let pm : unsigned mean ≡ true = div-unsigned binary32 (add binary32 a b) 0 (pos 1) (add-unsigned binary32 a b pa pb) in
+    add-unsigned binary32 (abs (sub binary32 a mean)) (abs (sub binary32 b mean))
+    (abs-unsigned (sub binary32 a mean) (sub-exists binary32 a mean pa pm (rw fa)))
+    (abs-unsigned (sub binary32 b mean) (sub-exists binary32 b mean pb pm (rw fb)))
 
-pub variance-plain : (h v : List ℕ) → ((k : ℕ) → getD h k 0 < 65536) → ((k : ℕ) → getD v k 0 < 65536) → plain (circleVariance h v) ≡ true
+pub variance-unsigned : (h v : List ℕ) → ((k : ℕ) → getD h k 0 < 65536) → ((k : ℕ) → getD v k 0 < 65536) → unsigned (circleVariance h v) ≡ true
 unfolding circleVariance ofBits
-variance-plain h v sh sv =
+variance-unsigned h v sh sv =
     let even : Float = varianceTo evens h (tenthOfWidth evens h v) 11 in
     let other : Float = varianceTo others h (tenthOfWidth odds h v) 11 in
     let wide : Float = areaVariance (expectedArea (getD v 5 0)) (expectedArea (getD h 5 0)) in
-    div-plain binary32 (add binary32 (add binary32 even other) wide) 2 (pos 0)
-    (add-plain binary32 (add binary32 even other) wide
-    (add-plain binary32 even other
-    (total-plain evens h sh (tenthOfWidth evens h v) (module-plain evens h v) 11)
-    (total-plain others h sh (tenthOfWidth odds h v) (module-plain odds h v) 11))
-    (circle-plain (expectedArea (getD v 5 0)) (expectedArea (getD h 5 0))
-    (area-plain (getD v 5 0) (sv 5)) (area-finite (getD v 5 0) (sv 5)) (area-plain (getD h 5 0) (sh 5)) (area-finite (getD h 5 0) (sh 5))))
+    div-unsigned binary32 (add binary32 (add binary32 even other) wide) 2 (pos 0)
+    (add-unsigned binary32 (add binary32 even other) wide
+    (add-unsigned binary32 even other
+    (total-unsigned evens h sh (tenthOfWidth evens h v) (module-unsigned evens h v) 11)
+    (total-unsigned others h sh (tenthOfWidth odds h v) (module-unsigned odds h v) 11))
+    (circle-unsigned (expectedArea (getD v 5 0)) (expectedArea (getD h 5 0))
+    (area-unsigned (getD v 5 0) (sv 5)) (area-finite (getD v 5 0) (sv 5)) (area-unsigned (getD h 5 0) (sh 5)) (area-finite (getD h 5 0) (sh 5))))
 
 -- binary32 holds the variance
 pub variance-fits : (h v : List ℕ) → T (fits binary32 (circleVariance h v))

@@ -1,4 +1,4 @@
--- A record's variance is a number that is not negative (`varied-plain`). Assumes nothing.
+-- A record's variance is a number that is not negative (`varied-unsigned`). Assumes nothing.
 use Prim.Native.Nat.{ℕ, zero, suc, _+_, _≤_}
 use native.Mathlib.Omega.{arith}
 use mathlib.Core.Path.{_≡_, ap, _∙_}
@@ -10,9 +10,9 @@ use lib.Ieee.Bits.{ofBits-toBits}
 use Rattle.records.specs.Records.{Record}
 use Rattle.detector_variance.specs.Variance.{circleVariance}
 use Rattle.detector_variance.specs.VarianceClauses.{Short}
-use Rattle.detector_variance.specs.NeverNaNLaws.{plain, variance-plain, variance-fits}
+use Rattle.detector_variance.specs.NeverNaNLaws.{unsigned, variance-unsigned, variance-fits}
 use Rattle.detector_variances.specs.Variances.{runsFrom, varianceBits, withVariance, varianceOf}
-use Rattle.detector_variances.specs.VariancesClauses.{Small, PlainVariance}
+use Rattle.detector_variances.specs.VariancesClauses.{Small, UnsignedVariance}
 
 small-take : (n : ℕ) (l : List ℕ) → Small l → Small (take n l)
 small-take zero l small k = omega arith
@@ -33,7 +33,7 @@ variance-back r e =
     ap (ofBits binary32) (getD-set-same r 25 (varianceBits r) 0 (omega arith))
     ∙ ofBits-toBits binary32 (circleVariance (runsFrom 3 r) (runsFrom 14 r)) (variance-fits (runsFrom 3 r) (runsFrom 14 r))
 
-pub varied-plain : (r : Record) → (length r ≡ 40) × Small r → PlainVariance (withVariance r)
-varied-plain r (e, small) =
-    ap plain (variance-back r e) ∙ variance-plain (runsFrom 3 r) (runsFrom 14 r) (short r 3 e (omega arith) small .small)
+pub varied-unsigned : (r : Record) → (length r ≡ 40) × Small r → UnsignedVariance (withVariance r)
+varied-unsigned r (e, small) =
+    ap unsigned (variance-back r e) ∙ variance-unsigned (runsFrom 3 r) (runsFrom 14 r) (short r 3 e (omega arith) small .small)
     (short r 14 e (omega arith) small .small)

@@ -10,7 +10,8 @@ use lib.IntN.{ℤ, pos, negsuc, natAbs}
 use lib.Ieee.{ofBits}
 use lib.Ieee.Exact.{HasValue}
 use Rattle.bit_matrix.specs.declared.Shape.{Shape}
-use Rattle.bit_matrix.specs.Shape.{shapeOf, size, Limits}
+use Rattle.bit_matrix.specs.Shape.{shapeOf, size}
+use Rattle.bit_matrix.specs.ShapeClauses.{Limits}
 use Rattle.sines.specs.declared.Angle.{Angle}
 use Rattle.sines.specs.Sines.{sineOf, angleOf}
 use Rattle.sines.specs.Laws.{scaled, scaledSine, scaledCosine, negative, sine-mod, sine-mod-add, sine-rules}
@@ -42,17 +43,17 @@ steps-some shape (pos (suc n)) = omega arith
 steps-some shape (negsuc n) = omega arith
 
 -- ---- an image's words add steps only where the sine is 0
-abbrev none : Shape
-none = shapeOf 0 0
+abbrev noRows : Shape
+noRows = shapeOf 0 0
 
-steps-more : (shape : Shape) (u : ℤ) → stepsOf shape u ≤ 64 * size shape + stepsOf none u
+steps-more : (shape : Shape) (u : ℤ) → stepsOf shape u ≤ 64 * size shape + stepsOf noRows u
 unfolding stepsOf
 steps-more shape (pos zero) = omega arith
 steps-more shape (pos (suc n)) = omega arith
 steps-more shape (negsuc n) = omega arith
 
 fewAt : ℕ → Bool
-fewAt d = leb (stepsOf none (scaledSine d)) (2 ^ 18)
+fewAt d = leb (stepsOf noRows (scaledSine d)) (2 ^ 18)
 
 few-pass : T (every fewAt 360)
 unfolding fewAt stepsOf sineOf scaled ofBits
@@ -74,7 +75,7 @@ pub record Rules (angle : Angle) : Type 0 where
   pub sine : HasValue (angle .sin) (negative (scaled (angle .sin))) (natAbs (scaled (angle .sin))) (2 ^ 29)
   pub cosine : HasValue (angle .cos) (negative (scaled (angle .cos))) (natAbs (scaled (angle .cos))) (2 ^ 29)
   pub flat : natAbs (scaled (angle .sin)) ≡ 0 → natAbs (scaled (angle .cos)) ≡ 2 ^ 29
-  pub few : stepsRight none angle ≤ 2 ^ 18
+  pub few : stepsRight noRows angle ≤ 2 ^ 18
 
 module _ (degree : ℕ) where
   abbrev one : ℕ

@@ -4,7 +4,7 @@ use mathlib.Core.List.{List}
 use mathlib.Core.Path.{_≡_}
 use lib.Ieee.{Float}
 use Rattle.bit_matrix.specs.declared.Shape.{Shape}
-use Rattle.bit_matrix.specs.Shape.{Image, Inside}
+use Rattle.bit_matrix.specs.ShapeClauses.{Image, Inside}
 use Rattle.sines.specs.declared.Angle.{Angle}
 use Rattle.sines.specs.Sines.{sines, angleOf}
 use Rattle.rxing_result_point.specs.declared.PointU.{PointU}

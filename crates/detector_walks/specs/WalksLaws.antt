@@ -26,7 +26,8 @@ use Rattle.reads.specs.Reads.{Reads, done, value}
 use Rattle.reads.specs.Runs.{valueOf}
 use Rattle.reads.specs.RunsLaws.{valueOf-bind}
 use Rattle.bit_matrix.specs.declared.Shape.{Shape}
-use Rattle.bit_matrix.specs.Shape.{size, Limits, Inside}
+use Rattle.bit_matrix.specs.Shape.{size}
+use Rattle.bit_matrix.specs.ShapeClauses.{Limits, Inside}
 use Rattle.bit_matrix.specs.ShapeLaws.{image-kept}
 use Rattle.bit_matrix.specs.Pixels.{offset}
 use Rattle.detector_walks.specs.Walks.{walkPoint, whitePixel, whitePoint, rightFrom, walk}

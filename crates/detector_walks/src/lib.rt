@@ -8,7 +8,7 @@ use sines::Angle;
 ghost use mathlib.Core.Path.{_≡_};
 ghost use Prim.Native.Nat.{_+_, _^_, _≤_, _<_};
 ghost use Rattle.reads.specs.RunsClauses.{Ran};
-ghost use Rattle.bit_matrix.specs.Shape.{Image, Inside};
+ghost use Rattle.bit_matrix.specs.ShapeClauses.{Image, Inside};
 ghost use Rattle.detector_walks.specs.Walks.{walkPoint, whitePixel, whitePoint, firstColumn, walk, findWidthAtDegree};
 ghost use Rattle.detector_walks.specs.WalksClauses.{OfDegree, Lent};
 

@@ -10,7 +10,8 @@ use lib.ListN.{length, take, drop}
 use lib.Seq.{getD-drop}
 use lib.Ieee.{Float, binary32, binary64, ofBits, toBits}
 use Rattle.bit_matrix.specs.declared.Shape.{Shape}
-use Rattle.bit_matrix.specs.Shape.{shapeOf, Image}
+use Rattle.bit_matrix.specs.Shape.{shapeOf}
+use Rattle.bit_matrix.specs.ShapeClauses.{Image}
 use Rattle.sines.specs.Sines.{sines}
 use Rattle.records.specs.Records.{capacityOf, rows}
 use Rattle.records.specs.RecordsClauses.{Each}

@@ -5,7 +5,7 @@ use detector_circle::Circle;
 use rxing_result_point::PointU;
 ghost use mathlib.Core.Path.{_≡_};
 ghost use Rattle.reads.specs.RunsClauses.{Ran};
-ghost use Rattle.bit_matrix.specs.Shape.{Image};
+ghost use Rattle.bit_matrix.specs.ShapeClauses.{Image};
 ghost use Rattle.bit_matrix_area.specs.Area.{tryGetArea};
 ghost use Rattle.sines.specs.Sines.{sines};
 ghost use Rattle.detector_walks.specs.Walks.{findWidthAtDegree};

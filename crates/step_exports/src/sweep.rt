@@ -2,7 +2,7 @@
 use bit_matrix::Shape;
 ghost use mathlib.Core.Path.{_≡_};
 ghost use Rattle.reads.specs.RunsClauses.{Ran};
-ghost use Rattle.bit_matrix.specs.Shape.{Image};
+ghost use Rattle.bit_matrix.specs.ShapeClauses.{Image};
 ghost use Rattle.detector_candidates.specs.Candidates.{concentricCircles};
 ghost use Rattle.detector_candidates.specs.CandidatesClauses.{Room, Listed};
 ghost use Rattle.step_exports.specs.Row.{blackFrom};

@@ -4,7 +4,7 @@ use native.Mathlib.Nat.{mul-le-mul}
 use native.Mathlib.Omega.{arith}
 use borrow.Author.Needs.{needs}
 use Rattle.bit_matrix.specs.declared.Shape.{Shape}
-use Rattle.bit_matrix.specs.Shape.{Limits}
+use Rattle.bit_matrix.specs.ShapeClauses.{Limits}
 use Rattle.bit_matrix.proofs.get_offset.Statement.{statement}
 use Rattle.bit_matrix.proofs.get_offset.Tie as tie
 

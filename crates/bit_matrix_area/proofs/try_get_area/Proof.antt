@@ -8,7 +8,7 @@ use native.Mathlib.Omega.{arith}
 use borrow.Author.Needs.{needs}
 use lib.ListN.{length}
 use Rattle.bit_matrix.specs.declared.Shape.{Shape}
-use Rattle.bit_matrix.specs.Shape.{Image, Inside}
+use Rattle.bit_matrix.specs.ShapeClauses.{Image, Inside}
 use Rattle.bit_matrix.specs.Pixels.{offset}
 use Rattle.bit_matrix.specs.PixelsLaws.{inside-stored}
 use Rattle.bit_matrix_nine.specs.AreaWords.{CountedBits, nineOf, InWords}

@@ -8,7 +8,8 @@ use borrow.Author.Needs.{needs}
 use borrow.Author.Tests.{ne-eqb}
 use lib.ListN.{length}
 use Rattle.bit_matrix.specs.declared.Shape.{Shape}
-use Rattle.bit_matrix.specs.Shape.{shapeOf, Limits}
+use Rattle.bit_matrix.specs.Shape.{shapeOf}
+use Rattle.bit_matrix.specs.ShapeClauses.{Limits}
 use Rattle.crop_sizes.specs.ChainLaws.{chain, chain-here, chain-next}
 use Rattle.crop_sizes.specs.Sizes.{fileLength, leastSide, imageRefusal}
 use Rattle.crop_sizes.specs.SizesLaws.{rows-of, image-within, size-kept, size-next}

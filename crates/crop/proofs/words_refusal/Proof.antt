@@ -7,7 +7,8 @@ use mathlib.Core.Path.{_≡_, refl, sym, ap, ap₂, _∙_}
 use borrow.Author.Needs.{needs}
 use lib.ListN.{length}
 use Rattle.bit_matrix.specs.declared.Shape.{Shape}
-use Rattle.bit_matrix.specs.Shape.{shapeOf, size, Limits}
+use Rattle.bit_matrix.specs.Shape.{shapeOf, size}
+use Rattle.bit_matrix.specs.ShapeClauses.{Limits}
 use Rattle.crop_sizes.specs.ChainLaws.{chain-here, chain-next}
 use Rattle.crop_sizes.specs.Sizes.{leastSide, imageRefusal}
 use Rattle.crop_sizes.specs.SizesLaws.{rows-of, image-within, size-kept, size-next}

@@ -9,7 +9,8 @@ use lib.Arith.{digits-lt}
 use lib.ListN.{length, getD}
 use lib.Pow.{shr-shr}
 use Rattle.bit_matrix.specs.declared.Shape.{Shape}
-use Rattle.bit_matrix.specs.Shape.{rowWords, size, Limits}
+use Rattle.bit_matrix.specs.Shape.{rowWords, size}
+use Rattle.bit_matrix.specs.ShapeClauses.{Limits}
 use Rattle.crop_padding.proofs.Padding.{Passed, passed-none, passed-more, passed-found, passed-all, wordsRow, lastWord, words-row-clean, words-row-set}
 use Rattle.crop_padding.proofs.words_padded.Statement.{statement}
 use Rattle.crop_padding.proofs.words_padded.Tie as tie

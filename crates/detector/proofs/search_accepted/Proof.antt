@@ -8,7 +8,7 @@ use lib.ListN.{length}
 use Rattle.reads.specs.Bits.{zeros}
 use Rattle.reads.specs.Runs.{valueOf, marksOf}
 use Rattle.bit_matrix.specs.declared.Shape.{Shape}
-use Rattle.bit_matrix.specs.Shape.{Image}
+use Rattle.bit_matrix.specs.ShapeClauses.{Image}
 use Rattle.bit_matrix.specs.ShapeLaws.{image-kept}
 use Rattle.marks.specs.Marks.{onesOf}
 use Rattle.records.specs.Records.{capacityOf, laidOut}

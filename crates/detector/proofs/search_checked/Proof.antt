@@ -6,7 +6,8 @@ use mathlib.Core.Path.{_≡_, sym, ap, ap₂, _∙_}
 use borrow.Author.Needs.{needs}
 use lib.ListN.{length}
 use Rattle.bit_matrix.specs.declared.Shape.{Shape}
-use Rattle.bit_matrix.specs.Shape.{size, Image}
+use Rattle.bit_matrix.specs.Shape.{size}
+use Rattle.bit_matrix.specs.ShapeClauses.{Image}
 use Rattle.crop_sizes.specs.Sizes.{misfit}
 use Rattle.crop_rows.specs.Unpack.{unpacked}
 use Rattle.crop_rows.specs.UnpackClauses.{FileAccepted}

@@ -5,7 +5,8 @@ use mathlib.Core.Path.{_≡_, sym, ap, _∙_}
 use borrow.Author.Needs.{needs}
 use lib.ListN.{length}
 use Rattle.bit_matrix.specs.declared.Shape.{Shape}
-use Rattle.bit_matrix.specs.Shape.{shapeOf, Image}
+use Rattle.bit_matrix.specs.Shape.{shapeOf}
+use Rattle.bit_matrix.specs.ShapeClauses.{Image}
 use Rattle.crop.specs.Crop.{wordsRefusal}
 use Rattle.crop.specs.CropClauses.{WordsAccepted}
 use Rattle.crop.specs.CropLaws.{words-accepted}

@@ -7,7 +7,7 @@ use lib.Ieee.{Float}
 use Rattle.reads.specs.RunsClauses.{Ran}
 use Rattle.reads.specs.RunsLaws.{ran-bind, ran-is}
 use Rattle.bit_matrix.specs.declared.Shape.{Shape}
-use Rattle.bit_matrix.specs.Shape.{Image}
+use Rattle.bit_matrix.specs.ShapeClauses.{Image}
 use Rattle.sines.specs.Sines.{sines}
 use Rattle.records.specs.Records.{Record}
 use Rattle.detector_turn.specs.ScalesClauses.{LentCircle}

@@ -15,7 +15,7 @@ use Rattle.bit_matrix.specs.declared.Shape.{Shape}
 use Rattle.records.specs.Records.{Record, rows}
 use Rattle.records.specs.RecordsClauses.{get, put, Became, Each}
 use Rattle.records.specs.RecordsLaws.{Beside, length-rows, get-row, replaced, beside-start, beside-then, beside-room, each-at}
-use Rattle.bit_matrix.specs.Shape.{Image}
+use Rattle.bit_matrix.specs.ShapeClauses.{Image}
 use Rattle.bit_matrix.specs.ShapeLaws.{image-kept}
 use Rattle.detector_boxes.specs.Boxing.{boxed, boxedAll}
 use Rattle.detector_boxes.specs.BoxingClauses.{Boxable, AllBoxable, Boxed}

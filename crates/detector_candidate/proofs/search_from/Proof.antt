@@ -9,7 +9,7 @@ use borrow.Author.Tests.{not-true, not-false}
 use Rattle.reads.specs.RunsClauses.{Ran}
 use Rattle.reads.specs.RunsLaws.{ran-is, ran-bind, ran-then, ran-else, always-ran}
 use Rattle.bit_matrix.specs.declared.Shape.{Shape}
-use Rattle.bit_matrix.specs.Shape.{Limits}
+use Rattle.bit_matrix.specs.ShapeClauses.{Limits}
 use Rattle.detector_rows.specs.RowsClauses.{nextBullseye}
 use Rattle.detector_first_window.specs.FirstWindowLaws.{Closed}
 use Rattle.detector_rows.specs.RowsLaws.{always-closed}

@@ -17,7 +17,7 @@ use Rattle.reads.specs.RunsLaws.{ran-done, always-ran, resumes-start, resumes-s
 use Rattle.records.specs.Records.{Record, rows}
 use Rattle.records.specs.RecordsLaws.{length-rows}
 use Rattle.bit_matrix.specs.declared.Shape.{Shape}
-use Rattle.bit_matrix.specs.Shape.{Image}
+use Rattle.bit_matrix.specs.ShapeClauses.{Image}
 use Rattle.bit_matrix.specs.ShapeLaws.{image-kept}
 use Rattle.detector_candidate.specs.CandidateClauses.{searchFrom}
 use Rattle.detector_candidates.specs.CandidatesClauses.{rowFrom, rowsFrom, Room, Listed}

@@ -9,7 +9,7 @@ use borrow.Author.Needs.{needs}
 use Rattle.reads.specs.RunsClauses.{Ran}
 use Rattle.reads.specs.RunsLaws.{ran-bind, ran-is, always-ran}
 use Rattle.bit_matrix.specs.declared.Shape.{Shape}
-use Rattle.bit_matrix.specs.Shape.{Limits}
+use Rattle.bit_matrix.specs.ShapeClauses.{Limits}
 use Rattle.detector_widths.specs.Widths.{at, validWidths}
 use Rattle.detector_columns.specs.Columns.{columnVector, potentialBullseyeArray, potentialBullseye, tryColumnBy}
 use Rattle.detector_columns.specs.ColumnsClauses.{tryColumn}

@@ -4,7 +4,7 @@ use native.Mathlib.Nat.{mul-le-mul}
 use native.Mathlib.Omega.{arith}
 use borrow.Author.Needs.{needs}
 use Rattle.bit_matrix.specs.declared.Shape.{Shape}
-use Rattle.bit_matrix.specs.Shape.{Limits}
+use Rattle.bit_matrix.specs.ShapeClauses.{Limits}
 use Rattle.detector_first_window.proofs.first_word.Statement.{statement}
 use Rattle.detector_first_window.proofs.first_word.Tie as tie
 

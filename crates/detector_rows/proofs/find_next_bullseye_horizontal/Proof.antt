@@ -9,7 +9,7 @@ use Rattle.reads.specs.BitsLaws.{length-markAll}
 use Rattle.reads.specs.RunsClauses.{Ran}
 use Rattle.reads.specs.RunsLaws.{ran-bind}
 use Rattle.bit_matrix.specs.declared.Shape.{Shape}
-use Rattle.bit_matrix.specs.Shape.{Image}
+use Rattle.bit_matrix.specs.ShapeClauses.{Image}
 use Rattle.bit_runs.specs.BitRuns.{rowBit, FirstBlack}
 use Rattle.reads.specs.OrderLaws.{range-again}
 use Rattle.detector_rows.specs.Rows.{nextBullseyeBy}

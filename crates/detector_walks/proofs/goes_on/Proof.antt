@@ -11,7 +11,7 @@ use lib.Ieee.{binary32, add, sub, mul, toUnsigned, inFloat}
 use Rattle.ieee.specs.Sign.{abs}
 use Rattle.reads.specs.RunsClauses.{Ran}
 use Rattle.bit_matrix.specs.declared.Shape.{Shape}
-use Rattle.bit_matrix.specs.Shape.{Limits, Inside}
+use Rattle.bit_matrix.specs.ShapeClauses.{Limits, Inside}
 use Rattle.sines.specs.declared.Angle.{Angle}
 use Rattle.rxing_result_point.specs.declared.PointU.{PointU}
 use Rattle.rxing_result_point.specs.Points.{past, real, turned}

@@ -14,7 +14,7 @@ use Rattle.reads.specs.Reads.{Reads, done}
 use Rattle.reads.specs.RunsClauses.{Ran, Resumes}
 use Rattle.reads.specs.RunsLaws.{ran-is, resumes-start, resumes-step, resumes-then, resumes-else, resumes-end}
 use Rattle.bit_matrix.specs.declared.Shape.{Shape}
-use Rattle.bit_matrix.specs.Shape.{Limits, Inside}
+use Rattle.bit_matrix.specs.ShapeClauses.{Limits, Inside}
 use Rattle.sines.specs.declared.Angle.{Angle}
 use Rattle.sines.specs.Laws.{scaled}
 use Rattle.rxing_result_point.specs.declared.Point.{Point}

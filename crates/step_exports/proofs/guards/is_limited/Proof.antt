@@ -7,7 +7,8 @@ use mathlib.Core.Path.{_≡_, sym, _∙_}
 use borrow.Author.Tests.{eqb-true, eq-eqb}
 use lib.Dec.{eqb}
 use Rattle.bit_matrix.specs.declared.Shape.{Shape}
-use Rattle.bit_matrix.specs.Shape.{rowWords, Limits}
+use Rattle.bit_matrix.specs.Shape.{rowWords}
+use Rattle.bit_matrix.specs.ShapeClauses.{Limits}
 use Rattle.crop_sizes.specs.ChainLaws.{chain}
 use Rattle.crop_sizes.specs.Sizes.{leastSide, imageRefusal}
 use Rattle.crop_sizes.specs.SizesLaws.{image-within}
