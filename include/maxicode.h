@@ -21,7 +21,8 @@
 #define MAXICODE_ANSWER_PADDING 5     /* a padding bit is 1 */
 #define MAXICODE_ANSWER_BUFFER 6      /* a buffer of the wrong length */
 #define MAXICODE_ANSWER_TOO_MANY 7    /* more candidates than the capacity */
-#define MAXICODE_ANSWER_NONE_KEPT 8   /* no candidate is kept */
+#define MAXICODE_ANSWER_NONE_FOUND 8  /* no candidate is found */
+#define MAXICODE_ANSWER_SET_ASIDE 9   /* every candidate is set aside */
 
 /* Sizes. */
 #define MAXICODE_KIND 1               /* the kind in a crop file's first four bits */
@@ -65,7 +66,7 @@ extern "C" {
 /* What a search reports. After a refusal the counts are 0 and no buffer has changed. */
 struct maxicode_report {
     uint32_t answer;
-    uint32_t found;  /* the sweep's candidates; the capacity and one more with MAXICODE_ANSWER_TOO_MANY */
+    uint32_t found;  /* the sweep's candidates; the capacity and one more with MAXICODE_ANSWER_TOO_MANY, 0 with .._NONE_FOUND */
     uint32_t kept;   /* those within the deviation: so many records are filled, best first */
     uint32_t marked; /* one bits of the marks */
 };

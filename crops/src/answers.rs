@@ -48,7 +48,8 @@ pub const ANSWERS: &[Answer] = &[
     row(5, "a padding bit is 1", Kind::RefusedImage),
     row(6, "a buffer of the wrong length", Kind::RefusedBuffer),
     row(7, "more candidates than the capacity", Kind::Searched),
-    row(8, "no candidate is kept", Kind::Searched),
+    row(8, "no candidate is found", Kind::Searched),
+    row(9, "every candidate is set aside", Kind::Searched),
 ];
 
 /// What `check`'s 0 says: the file would be searched.
@@ -97,7 +98,7 @@ mod tests {
     fn a_check_gives_no_answer_of_a_search() {
         assert_eq!(check_meaning(0), Ok("accepted"));
         assert_eq!(check_meaning(5), Ok("a padding bit is 1"));
-        for number in [6, 7, 8, 9] {
+        for number in [6, 7, 8, 9, 10] {
             let unknown = check_meaning(number).unwrap_err().to_string();
             assert_eq!(unknown, format!("unknown number of a check: {number}"));
         }

@@ -198,13 +198,27 @@ pub struct Difference {
     pub lines: usize,
 }
 
+/// The data in a line: of an answer the number, since another version may say it in other words; nothing of a line for the reader.
+fn data(line: &str) -> Option<String> {
+    match line.strip_prefix("answer: ") {
+        _ if line.starts_with('#') => None,
+        Some(answer) => answer.split(' ').next().map(|n| format!("answer: {n}")),
+        None => Some(line.to_owned()),
+    }
+}
+
 /// Holds a certificate against what the run gives, line by line; without `all` only the data.
 pub fn difference(said: &str, given: &str, all: bool) -> Option<Difference> {
     let compared = |text: &str| -> Vec<(usize, String)> {
-        let lines = (1..).zip(text.lines().map(String::from));
-        lines
-            .filter(|(_, line)| all || !line.starts_with('#'))
-            .collect()
+        let line = |line: &str| {
+            if all {
+                Some(line.to_owned())
+            } else {
+                data(line)
+            }
+        };
+        let lines = (1..).zip(text.lines().map(line));
+        (lines.filter_map(|(number, line)| Some((number, line?)))).collect()
     };
     let (said, given) = (compared(said), compared(given));
     let differs = |&place: &usize| {
@@ -244,6 +258,11 @@ mod tests {
         assert_eq!(changed, Some((2, "# x".into(), "# b".into(), 2)));
         let data = differs("a\n# x\nd\n", "a\n# b\n# b\nc\n", false);
         assert_eq!(data, Some((3, "d".into(), "c".into(), 1)));
+        let (kept, found) = ("answer: 8 none is kept\n", "answer: 8 none is found\n");
+        assert_eq!(differs(kept, found, false), None);
+        assert!(differs(kept, found, true).is_some());
+        let other = differs(kept, "answer: 9 none is kept\n", false);
+        assert_eq!(other, Some((1, "answer: 8".into(), "answer: 9".into(), 1)));
         let short = differs("a\n", "a\nb\n", true);
         assert_eq!(short, Some((2, "nothing".into(), "b".into(), 1)));
         let long = differs("a\nb\n", "a\n", true);

@@ -1,6 +1,7 @@
 //! What a summary counts, and its tables.
 use crate::{
     layout::{Row, row, table},
+    missed::Tally,
     run::Seen,
 };
 use crops::{ANSWERS, Answer, CLASSES, Outcome, Record};
@@ -46,11 +47,12 @@ impl Grid {
     }
 }
 
-/// Files by answer; crops, by their first records, and boxes by class and outcome.
+/// Files by answer; crops without a box by their reason; crops, by their first records, and boxes by class and outcome.
 #[derive(Default)]
 pub struct Counts {
     unread: usize,
     answers: [usize; ANSWERS.len()],
+    missed: Tally,
     crops: Grid,
     boxes: Grid,
 }
@@ -58,6 +60,7 @@ pub struct Counts {
 impl Counts {
     /// Counts a file, or one that could not be read.
     pub fn add(&mut self, seen: &Result<Seen, String>) {
+        self.missed.add(seen);
         let Ok(seen) = seen else {
             self.unread += 1;
             return;
@@ -102,11 +105,11 @@ impl Counts {
         table("Files", &["files"], &rows)
     }
 
-    /// Both missed figures, the second by crops and by boxes.
+    /// Both missed figures, the first by its reasons and in all, the second by crops and by boxes.
     fn missed(&self) -> String {
         let (searched, crops, boxes) = (self.searched(), self.crops.all(), self.boxes.all());
-        let counts = [
-            ("searched crops without a box", searched - crops, searched),
+        let without_a_box = self.missed.lines().map(|(label, n)| (label, n, searched));
+        let without_a_turn = [
             (
                 "crops whose first box has no turn",
                 self.crops.without_turn(),
@@ -114,10 +117,12 @@ impl Counts {
             ),
             ("boxes without a turn", self.boxes.without_turn(), boxes),
         ];
-        let rows = counts.map(|(label, missed, all)| {
+        let line = |&(label, missed, all): &(&str, usize, usize)| {
             let cells = [missed.to_string(), all.to_string(), share(missed, all)];
             row(label, cells)
-        });
+        };
+        let figures = without_a_box.iter().chain(&without_a_turn);
+        let rows: Vec<Row> = figures.map(line).collect();
         table("Missed", &["missed", "of", "share"], &rows)
     }
 

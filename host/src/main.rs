@@ -13,6 +13,7 @@ mod inputs;
 mod json;
 mod kept;
 mod layout;
+mod missed;
 mod output;
 mod parallel;
 mod program;

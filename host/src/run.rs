@@ -113,7 +113,7 @@ mod tests {
             (0, 2, (OUTCOME, 3), "unknown outcome: 3"),
             (0, 2, (CLASS, 4), "unknown class: 4"),
             (0, 3, (CLASS, 0), "unknown number of kept records: 3"),
-            (9, 0, (CLASS, 0), "unknown answer: 9"),
+            (10, 0, (CLASS, 0), "unknown answer: 10"),
             (14, 0, (CLASS, 0), "unknown answer: 14"),
         ] {
             assert_eq!(said(answer, kept, word), Err(error.into()));

@@ -2,8 +2,8 @@
 //!
 //! A pack is a run of vectors. Each is, in little-endian order: a name of 24 bytes padded with zeros; u32 lengths of the
 //! lent words, records and marks and of the file; the u32 report (answer, found, kept, marked); the file's bytes, padded
-//! with zeros to a multiple of 8; then, if the image was accepted (answers 0, 7, 8), the kept records as u32 words and
-//! the marks as u64 words.
+//! with zeros to a multiple of 8; then, if the image was accepted (answers 0, 7, 8, 9), the kept records as u32 words
+//! and the marks as u64 words.
 
 use crops::{MOST_CANDIDATES, RECORD_WORDS, Report, answer, known, unpacked};
 
@@ -104,6 +104,22 @@ impl Vector {
             first_difference(&lent.records, &expected.records),
         )?;
         place("marks", first_difference(&lent.marks, &expected.marks))
+    }
+
+    /// In words what another run on the same crop and lengths has otherwise.
+    pub fn changes(&self, new: &Vector) -> Vec<String> {
+        let (old, now) = (self.report, new.report);
+        let number = |what: &str, a: u32, b: u32| (a != b).then(|| format!("{what} {a} -> {b}"));
+        let buffer = |what: &str, differs: bool| differs.then(|| what.to_string());
+        let changes = [
+            number("answer", old.answer, now.answer),
+            number("found", old.found, now.found),
+            number("kept", old.kept, now.kept),
+            number("marked", old.marked, now.marked),
+            buffer("records", self.records != new.records),
+            buffer("marks", self.marks != new.marks),
+        ];
+        changes.into_iter().flatten().collect()
     }
 
     fn write(&self, out: &mut Vec<u8>) {

@@ -61,10 +61,10 @@ fn all_answers_are_there() {
     let entries = [
         ("host file", 0..=5),
         ("program file", 0..=5),
-        ("program file", 7..=8),
+        ("program file", 7..=9),
         ("unpack file", 0..=6),
-        ("search file", 0..=8),
-        ("search words", 2..=8),
+        ("search file", 0..=9),
+        ("search words", 2..=9),
     ];
     for (entry, answers) in entries {
         for answer in answers {

@@ -151,7 +151,7 @@ fn coverage_counts_a_record() {
         (1, 1, 1)
     );
     assert_eq!(coverage.outcomes, [0, 1, 0]);
-    coverage.add(8, 4, 0, &[]);
-    assert_eq!(coverage.none_kept, 1);
+    coverage.add(9, 4, 0, &[]);
+    assert_eq!((coverage.answers[9], coverage.found[3]), (1, 1));
     assert!(coverage.table().contains("turn at scale 3 | 1\n"));
 }

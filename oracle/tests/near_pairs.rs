@@ -247,15 +247,15 @@ fn black_centre_goes_to_the_corner() {
     }
 }
 
-/// Fact 2: candidates found and none kept.
+/// Fact 2: candidates found and all set aside.
 #[test]
-fn found_and_none_kept() {
+fn found_and_all_set_aside() {
     let mut canvas = Canvas::white(49, 49);
     for (x, y) in [(12, 24), (36, 24), (24, 12), (24, 36)] {
         canvas.rings(x, y, 1);
     }
     let expected = Report {
-        answer: 8,
+        answer: 9,
         found: 4,
         kept: 0,
         marked: 734,

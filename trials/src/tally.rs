@@ -95,7 +95,7 @@ mod tests {
         one.add("families", "noise");
         two.add("families", "noise");
         two.differences = 1;
-        let line = "2 crops, 1 answers; 0: 1 1: 0 2: 0 3: 0 4: 0 5: 0 6: 0 7: 0 8: 0; \
+        let line = "2 crops, 1 answers; 0: 1 1: 0 2: 0 3: 0 4: 0 5: 0 6: 0 7: 0 8: 0 9: 0; \
                     outcomes 0: 0 1: 0 2: 1; families noise: 2; 1 differences";
         assert_eq!(one.merge(two).line("crops"), line);
     }

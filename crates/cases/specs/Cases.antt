@@ -33,6 +33,11 @@ use Rattle.detector_variance.specs.Variance.{widthTo, tenthOfWidth, further, va
 use Rattle.records.specs.Records.{Record, filter}
 use Rattle.detector_kept.specs.Spread.{mean, withSquare, squares, deviation, spread}
 use Rattle.detector_kept.specs.Retain.{near, retain}
+use Rattle.detector_kept.specs.Kept.{ranked}
+use Rattle.detector_sort.specs.Sort.{insert, sort}
+use Rattle.detector_rank.specs.Rank.{rank}
+use Rattle.detector_variances.specs.Variances.{withVariance}
+use Rattle.detector_verdict.specs.Verdict.{verdictOf, verdict}
 use Rattle.detector_size.specs.Size.{idealSide, guessedSize, plainSize}
 use Rattle.detector_boundary.specs.Boundary.{leftShift, rightShift, boundaryOf, plainBoundary}
 use Rattle.detector_boundary.specs.declared.Boundary.{Boundary}
@@ -67,6 +72,10 @@ areaOfNine a = areaAt 1 1 (a % 2 ^ 3 ∷ a / 2 ^ 3 % 2 ^ 3 ∷ a / 2 ^ 6 ∷ [])
 abbrev pub keptOf : List Record → List Record
 keptOf rs = retain (spread rs) rs
 
+-- three candidates by their centres, as the rows of one bull's-eye give them; the last one's column is x
+abbrev pub threeRows : ℕ → List ℕ → List ℕ → List ℕ → List Record
+threeRows x a b d = (93 ∷ 90 ∷ a) ∷ (93 ∷ 92 ∷ b) ∷ (x ∷ 94 ∷ d) ∷ []
+
 -- boundaries 60 wide and 66 high, the left one at 0
 abbrev pub raised : ℕ → Boundary
 raised bottom = record { left = 0; right = 60; top = bottom + 66; bottom = bottom }
@@ -88,6 +97,11 @@ pub record Cases : Type 0 where
   pub runs-all-10 : circleVariance (equal 10) (equal 10) ≡ real 10
   -- three candidates by their centres, whatever their other words a, b and d: the deviation of y is the root of 8 / 3, 1
   pub second-kept : (a b d : List ℕ) → keptOf ((50 ∷ 20 ∷ a) ∷ (50 ∷ 22 ∷ b) ∷ (50 ∷ 24 ∷ d) ∷ []) ≡ (50 ∷ 22 ∷ b) ∷ []
+  -- the last one a column to the left: the mean column is 92 and its deviation 0, so two are set aside by x, and the last by y; room for all, and for one less
+  pub all-set-aside : (a b d : List ℕ) → verdict 3 (threeRows 92 a b d) ≡ verdictOf 9 (threeRows 92 a b d) []
+  pub one-too-many : (a b d : List ℕ) → verdict 2 (threeRows 92 a b d) ≡ verdictOf 7 (threeRows 92 a b d) []
+  pub one-below-another : (a b d : List ℕ) → verdict 3 (threeRows 93 a b d) ≡ verdictOf 0 (threeRows 93 a b d) (withVariance (93 ∷ 92 ∷ b) ∷ [])
+  pub none-found : verdict 3 [] ≡ verdictOf 8 [] []
   -- radius 6; about (60, 60) in 120 by 120
   pub radius-6-size : plainSize 6 ≡ record { width = 42; height = 42 }
   pub radius-6-boundary : plainBoundary (shapeOf 120 120) (point 60 60) 6 ≡ record { left = 41; right = 82; top = 81; bottom = 39 }
@@ -104,7 +118,7 @@ unfolding ones size round ofBits ofInt add sub mul div toUnsigned toSigned abs f
     _>>=_ value testBit bitAt range valueOf flatMap pixel tryGet countBlack tryGetArea
     evenRunsPass oddRunsPass validWidths bump total metadata skipWhite windowBy nextBullseyeBy
     widthTo tenthOfWidth further varianceTo expectedArea areaVariance circleVariance filter mean withSquare squares deviation spread near
-    idealSide guessedSize leftShift rightShift boundaryOf adjustedPoint quarterOf
+    insert sort rank ranked verdict idealSide guessedSize leftShift rightShift boundaryOf adjustedPoint quarterOf
 cases = record {
   runs-all-1 = refl;
   even-run-1-among-2s = refl;
@@ -117,6 +131,10 @@ cases = record {
   four-of-nine = refl;
   runs-all-10 = refl;
   second-kept = λ a b d. refl;
+  all-set-aside = λ a b d. refl;
+  one-too-many = λ a b d. refl;
+  one-below-another = λ a b d. refl;
+  none-found = refl;
   radius-6-size = refl;
   radius-6-boundary = refl;
   bottom-0 = refl;

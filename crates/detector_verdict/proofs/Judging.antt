@@ -1,14 +1,15 @@
--- The three ways in which `verdict` returns. Assumes nothing.
+-- The four ways in which `verdict` returns. Assumes nothing.
 use Prim.Native.Nat.{ℕ, _+_, _-_, _*_, _≤_, _<_}
 use native.Mathlib.Nat.{zero-add}
 use native.Mathlib.Omega.{arith}
 use mathlib.Core.Path.{_≡_, refl, sym, ap, ap₂, _∙_}
 use mathlib.Core.List.{List, [], _++_}
-use borrow.Author.Tests.{lt-ltb, le-ltb}
+use borrow.Author.Tests.{lt-ltb, le-ltb, eq-eqb, ne-eqb}
 use lib.ListN.{length, take, drop, replicate}
 use Rattle.records.specs.Records.{Record, rows, flat, laidOut}
 use Rattle.detector_kept.specs.KeptClauses.{Candidates, KeptAndRanked}
 use Rattle.detector_kept.specs.Kept.{ranked}
+use Rattle.detector_kept.specs.KeptLaws.{ranked-few}
 use Rattle.detector_verdict.specs.VerdictLaws.{no-records}
 use Rattle.detector_verdict.specs.Verdict.{Verdict, verdictOf, verdict}
 use Rattle.detector_verdict.specs.VerdictClauses.{Judgeable, Holds, Judged}
@@ -60,17 +61,32 @@ module _ {capacity found : ℕ} {before : List ℕ} (candidates : List Record) (
     room : length candidates ≤ capacity
     room = omega (arith, holds .counted)
 
-    pub none-kept : {r : Counts} → k ≡ 0 → r ≡ record { answer = 8; found = found; kept = 0 } → Judged capacity candidates before r after
-    unfolding verdict
-    none-kept none made =
-        let empty : length (ranked candidates) ≤ 0 = omega (arith, number) in
-        let nothing : ranked candidates ≡ [] = no-records (ranked candidates) empty in
-        judged (rw (le-ltb capacity (length candidates) room, le-ltb 0 (length (ranked candidates)) empty) refl) made refl
-        (laid-out ∙ ap (λ (rs : List Record). laidOut capacity rs before) nothing)
-        (ap (λ (n : ℕ). rows n after) (sym none) ∙ rows-are ∙ nothing)
+    -- the buffer, where nothing is kept
+    module _ (empty : length (ranked candidates) ≤ 0) where
+      nothing : ranked candidates ≡ []
+      nothing = no-records (ranked candidates) empty
+
+      none-laid : after ≡ laidOut capacity [] before
+      none-laid = laid-out ∙ ap (λ (rs : List Record). laidOut capacity rs before) nothing
+
+    pub none-found : {r : Counts} → found ≡ 0 → r ≡ record { answer = 8; found = found; kept = 0 } → Judged capacity candidates before r after
+    unfolding verdict rows
+    none-found none made =
+        let empty : length candidates ≡ 0 = omega (arith, holds .counted) in
+        judged (rw (le-ltb capacity (length candidates) room, eq-eqb _ _ empty) refl) made refl (none-laid (omega (arith, ranked-few candidates))) refl
+
+    pub set-aside : {r : Counts} → (found ≡ 0 → ⊥) → k ≡ 0 → r ≡ record { answer = 9; found = found; kept = 0 } → Judged capacity candidates before r after
+    unfolding verdict rows
+    set-aside some none made =
+        let empty : length (ranked candidates) ≡ 0 = omega (arith, number) in
+        judged (rw (le-ltb capacity (length candidates) room, ne-eqb (length candidates) 0 (λ z. some (holds .counted ∙ z)), eq-eqb _ _ empty) refl) made refl
+        (none-laid (omega arith)) refl
 
     pub some-kept : {r : Counts} → (k ≡ 0 → ⊥) → r ≡ record { answer = 0; found = found; kept = k } → Judged capacity candidates before r after
     unfolding verdict
     some-kept some made =
         let more : 0 < length (ranked candidates) = omega (arith, number) in
-        judged (rw (le-ltb capacity (length candidates) room, lt-ltb 0 (length (ranked candidates)) more) refl) made number laid-out rows-are
+        let found-some : length candidates ≡ 0 → ⊥ = λ z. absurd (omega (arith, ranked-few candidates)) in
+        let kept-some : length (ranked candidates) ≡ 0 → ⊥ = λ z. absurd (omega arith) in
+        judged (rw (le-ltb capacity (length candidates) room, ne-eqb (length candidates) 0 found-some, ne-eqb (length (ranked candidates)) 0 kept-some) refl)
+        made number laid-out rows-are

@@ -34,8 +34,11 @@ pub fn verdict(records: &mut [u32], found: usize, capacity: usize) -> Counts
         return counted(7, found, 0);
     }
     let kept = detector_kept::keep_and_rank(records, found, capacity);
-    if kept == 0 {
+    if found == 0 {
         return counted(8, found, 0);
+    }
+    if kept == 0 {
+        return counted(9, found, 0);
     }
     counted(0, found, kept)
 }

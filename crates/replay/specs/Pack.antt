@@ -15,7 +15,7 @@ le64 bytes at = le32 bytes at + 4294967296 * le32 bytes (at + 4)
 
 -- the image was accepted and searched
 abbrev pub accepted : Vector → Bool
-accepted v = eqb (v .answer) 0 || eqb (v .answer) 7 || eqb (v .answer) 8
+accepted v = eqb (v .answer) 0 || eqb (v .answer) 7 || eqb (v .answer) 8 || eqb (v .answer) 9
 
 -- after the name, the lengths and the report comes the file, padded to a multiple of 8 bytes
 abbrev pub recordsAt : Vector → ℕ

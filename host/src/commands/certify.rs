@@ -32,7 +32,7 @@ pixels gives this run, the deleted one among them.
 counts and records. It is no theorem about the deleted crop, and says so: two runs of the proved search agree.
 
 --check searches the certificate's crop again and says whether every line agrees. Of a certificate that another version wrote, lines
-that begin with # are not compared.
+that begin with # and the words of the answer are not compared.
 
 CROP is a crop file, FILE a certificate; - is standard input.
 -o FILE  writes there instead of to standard output

@@ -3,7 +3,8 @@ use super::Command;
 use crate::{
     arguments::Arguments,
     changes::{Change, changes},
-    layout::{row, table},
+    layout::{Row, row, table},
+    missed::Tally,
     output::{Output, Problem},
     run::Seen,
     table::{self, Entry},
@@ -20,7 +21,9 @@ pub const COMMAND: Command = Command {
 Usage: bullseye compare OLD NEW
 
 Compares two tables of `bullseye table` (CSV), as two builds made them of the same crops: lists each crop that changed, and how; each that
-is in one table alone; then the numbers. Crops are the same by their names; a name that stands twice is compared in order.
+is in one table alone; then the numbers, and how many searched crops have no box in each table: empty (8), set aside (9), too many (7). In
+a table of version 0.1 answer 8 is set aside too: these go by what was found.
+Crops are the same by their names; a name that stands twice is compared in order.
   answer        another answer, or read in one table alone
   counts        found, kept or marked
   outcome       how the search for the turn ended, of a record
@@ -59,6 +62,7 @@ fn compared(old: &OsStr, new: &OsStr) -> Result<bool, Problem> {
     let mut old = Table::of(old)?;
     let mut counts = Counts {
         old: old.0.len(),
+        missed: [old.missed(), Tally::default()],
         ..Counts::default()
     };
     let mut output = Output::to(None)?;
@@ -111,6 +115,13 @@ impl Table {
         Ok(Table(all))
     }
 
+    /// Its searched crops without a box.
+    fn missed(&self) -> Tally {
+        let mut tally = Tally::default();
+        self.0.values().for_each(|(_, seen)| tally.add(seen));
+        tally
+    }
+
     /// The names that are left, in the table's order.
     fn left(self) -> Vec<OsString> {
         let mut left: Vec<(usize, OsString)> = (self.0.into_iter())
@@ -121,10 +132,11 @@ impl Table {
     }
 }
 
-/// How many crops changed, and in what.
+/// How many crops changed, and in what; the searched crops without a box of the old table and of the new.
 #[derive(Default)]
 struct Counts {
     old: usize,
+    missed: [Tally; 2],
     unchanged: usize,
     changed: usize,
     added: usize,
@@ -139,6 +151,7 @@ impl Counts {
         new: &Result<Seen, String>,
         old: Option<(usize, Result<Seen, String>)>,
     ) -> Option<String> {
+        self.missed[1].add(new);
         let Some((_, old)) = old else {
             self.added += 1;
             return Some("added".into());
@@ -173,6 +186,11 @@ impl Counts {
             by.push(row(kind.words(), [count]));
         }
         let changed = table("Changed in", &["crops"], &by);
-        format!("{start}{crops}\n{changed}")
+        let [old, new] = self.missed.map(|tally| tally.lines());
+        let reasons: Vec<Row> = (old.iter().zip(new))
+            .map(|(&(label, was), (_, is))| row(label, [was, is]))
+            .collect();
+        let missed = table("Without a box", &["old", "new"], &reasons);
+        format!("{start}{crops}\n{changed}\n{missed}")
     }
 }

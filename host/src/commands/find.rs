@@ -30,7 +30,7 @@ With more than one file, or a folder or a list, a line `FILE:` comes before the 
         "\
 A file that is refused or cannot be read is named on standard error, with the reason, and does not end the run.
 
-Exit status: 0 all files were searched (answers 0, 7, 8); 1 a file is refused or cannot be read; 2 bad usage.
+Exit status: 0 all files were searched (answers 0, 7, 8, 9); 1 a file is refused or cannot be read; 2 bad usage.
 
 Example: bullseye find examples/parcel.crop
 "

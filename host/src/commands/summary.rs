@@ -23,8 +23,11 @@ Usage: bullseye summary [--list | -0] FILE..
 Searches each crop file, with room for 400 records, and prints tables. Each kept record of a crop is a box. A crop is counted by its
 first record, the best, which is its label; its other boxes are counted among boxes alone.
   Files           how many were searched, refused, and could not be read
-  Missed          both missed figures: searched crops without a box (answers 7 and 8); and without a turn (no turn, or lost
-                  centre), by crops whose first box has none, and by all boxes
+  Missed          both missed figures: searched crops without a box, by reason and in all; and without a turn (no turn, or lost
+                  centre), by crops whose first box has none, and by all boxes. The reasons:
+                  empty (8)      no candidate is found
+                  set aside (9)  candidates are found, and none is kept
+                  too many (7)   more candidates than 400
   Answer          files by answer
   Outcome         crops by the outcome of their first box, and all boxes by outcome
   Class of crops  crops by class and outcome of their first box
@@ -34,7 +37,8 @@ first record, the best, which is its label; its other boxes are counted among bo
         files_help!(),
         "\
 A file that is refused or cannot be read is named on standard error, with the reason, and does not end the run.
---table  TABLE.. are tables of `bullseye table` (CSV), - for standard input: the summary of the files in them
+--table  TABLE.. are tables of `bullseye table` (CSV), - for standard input: the summary of the files in them. In a table of version
+         0.1 answer 8 is set aside too: Missed goes by what was found, Answer by the numbers
 
 Exit status: 0 all files were searched; 1 a file is refused or cannot be read; 2 bad usage, or a table that is none.
 

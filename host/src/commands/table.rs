@@ -20,7 +20,7 @@ Usage: bullseye table [--json] [-o FILE] [--list | -0] FILE..
 
 Searches each crop file, with room for 400 records, and writes CSV (RFC 4180): a header, then a line for each kept record of each
 file; a file without records has one line, with the record's columns empty.
-  file answer found kept marked    the file, its answer and counts
+  file answer found kept marked    the file, its answer and counts; without records 8 is empty, 9 set aside, 7 too many
   record                           the record's number in its file, from 1, the best first
   x y radius                       the circle as found, in pixels
   outcome                          1 turned, 0 no turn, 2 lost centre

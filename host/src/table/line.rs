@@ -37,6 +37,17 @@ impl Line {
             kept: number(&fields, 3)?,
             marked: number(&fields, 4)?,
         };
+        if !is_possible(&report) {
+            let Report {
+                answer,
+                found,
+                kept,
+                ..
+            } = report;
+            return Err(format!(
+                "answer {answer} does not go with found {found} and kept {kept}"
+            ));
+        }
         let record = match fields[RECORD..].iter().all(Vec::is_empty) {
             true => None,
             false => Some((number(&fields, RECORD)?, record(&fields)?)),
@@ -46,6 +57,18 @@ impl Line {
             name,
             seen: Ok((report, record)),
         })
+    }
+}
+
+/// Whether an answer can have these counts; 8 can have found some, since in a table of version 0.1 it is set aside too.
+fn is_possible(report: &Report) -> bool {
+    match report.answer {
+        0 => (1..=report.found).contains(&report.kept),
+        1..=6 => [report.found, report.kept, report.marked] == [0; 3],
+        7 => report.found > 1 && report.kept == 0,
+        8 => report.kept == 0,
+        9 => report.found > 0 && report.kept == 0,
+        _ => true,
     }
 }
 

@@ -53,7 +53,7 @@ fn a_damaged_file_or_buffer_is_refused() {
     *padded.last_mut().expect("it has rows") = 1;
     assert_eq!(bullseye::check(&padded), named("PADDING"));
     let least = header["RECORD_WORDS"].number;
-    for (records, answer) in [(least, named("NONE_KEPT")), (least - 1, named("BUFFER"))] {
+    for (records, answer) in [(least, named("NONE_FOUND")), (least - 1, named("BUFFER"))] {
         let (mut words, mut marks) = (vec![0; 33], vec![0; 33]);
         let report = bullseye::search_file(&good, &mut words, &mut vec![0; records], &mut marks);
         assert_eq!(report.answer, answer);

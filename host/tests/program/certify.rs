@@ -95,6 +95,7 @@ fn certificates_of_every_family() {
     files.push(("parcel".into(), parcel()));
     files.push(("white".into(), white()));
     files.push(("crowded".into(), crowded()));
+    files.push(("set aside".into(), set_aside()));
     let mut answers = Vec::new();
     for (name, file) in files {
         let text = certified(&folder, &name, &file);
@@ -102,7 +103,7 @@ fn certificates_of_every_family() {
         assert_eq!(value(&text, "name"), name);
         answers.push(judged(&file).0.answer);
     }
-    for answer in [0, 7, 8] {
+    for answer in [0, 7, 8, 9] {
         assert!(answers.contains(&answer), "{answer}");
     }
 }

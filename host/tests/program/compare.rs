@@ -11,13 +11,16 @@ fn table(folder: &Folder) -> String {
     folder.bullseye(&[&["table"][..], &files].concat()).text()
 }
 
-/// What a comparison prints: its lines about crops, and the numbers below as pairs.
+/// What a comparison prints: its lines about crops, and the numbers of its first two tables as pairs.
 fn compared(folder: &Folder, old: &str, new: &str) -> (i32, Vec<String>, Vec<(String, usize)>) {
     folder.write("old.csv", old.as_bytes());
     folder.write("new.csv", new.as_bytes());
     let ran = folder.bullseye(&["compare", "old.csv", "new.csv"]);
     assert_eq!(ran.err, "");
     let text = ran.text();
+    let (text, _) = text
+        .split_once("\nWithout a box  ")
+        .expect("the last table");
     let (lines, tables) = text.split_at(text.find("Crops  ").expect("a table"));
     let lines = lines.lines().filter(|line| !line.is_empty());
     let number = |line: &str| {
@@ -53,7 +56,7 @@ const CHANGES: [(&str, &str, &str, &str); 9] = [
         "parcel: marked 16538 -> 16539",
         "counts",
     ),
-    ("white,8,", "white,7,", "white: answer 8 -> 7", "answer"),
+    ("text,1,", "text,4,", "text: answer 1 -> 4", "answer"),
     (
         ",5,144,2,",
         ",5,146,2,",
@@ -122,14 +125,39 @@ fn fewer_boxes_or_none() {
     let old = table(&folder);
     let parcel = old.lines().nth(1).expect("a line").to_owned() + "\n";
     let lines = |line: &str| old.replace(&parcel, line);
-    let gone = format!("parcel,8,1,0,16538{}\n", ",".repeat(20));
+    let gone = format!("parcel,9,1,0,16538{}\n", ",".repeat(20));
     let (code, list, _) = compared(&folder, &old, &lines(&gone));
-    let line = "parcel: answer 0 -> 8; kept 1 -> 0";
+    let line = "parcel: answer 0 -> 9; kept 1 -> 0";
     assert_eq!((code, list), (1, vec![line.to_owned()]));
     let unread = format!("parcel{}denied\n", ",".repeat(24));
     let (code, list, _) = compared(&folder, &old, &lines(&unread));
     let line = "parcel: answer 0 -> none (denied)";
     assert_eq!((code, list), (1, vec![line.to_owned()]));
+}
+
+/// Searched crops without a box are counted in both tables, by what was found.
+#[test]
+fn crops_without_a_box() {
+    let folder = Folder::new("compare-missed");
+    folder.write("crowded", &crowded());
+    folder.write("aside", &set_aside());
+    let rows = folder.bullseye(&["table", "crowded", "aside"]).text();
+    let new = table(&folder) + &rows;
+    let old = new.replace("aside,9,4,0,", "aside,8,4,0,");
+    assert_ne!(old, new);
+    folder.write(
+        "old.csv",
+        old.replace("white,8,0,", "white,7,401,").as_bytes(),
+    );
+    folder.write("new.csv", new.as_bytes());
+    let text = folder.bullseye(&["compare", "old.csv", "new.csv"]).text();
+    assert!(text.contains("aside: answer 8 -> 9\n"), "{text}");
+    let (_, missed) = text
+        .split_once("\nWithout a box  ")
+        .expect("the last table");
+    let cells = |line: &str| line[44..].split_whitespace().map(str::to_owned).collect();
+    let rows: Vec<Vec<String>> = missed.lines().skip(1).map(cells).collect();
+    assert_eq!(rows, [["0", "1"], ["1", "1"], ["2", "1"], ["3", "3"]]);
 }
 
 #[test]

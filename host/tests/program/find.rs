@@ -69,7 +69,7 @@ fn the_judges_lines() {
     }
     let ran = folder.bullseye(&args);
     assert_eq!(ran.text(), lines);
-    for answer in [0, 1, 4, 8] {
+    for answer in [0, 1, 4, 8, 9] {
         assert!(lines.contains(&format!("\nanswer {answer} ")), "{answer}");
     }
 }

@@ -121,6 +121,12 @@ fn crowded() -> Vec<u8> {
     crops::pack(&words, width, height)
 }
 
+/// Four small bull's-eyes, crosses, about a white middle: each is too far from the mean centre.
+fn set_aside() -> Vec<u8> {
+    let path = Path::new(env!("CARGO_MANIFEST_DIR")).join("../examples/set-aside.crop");
+    fs::read(path).expect("the example is there")
+}
+
 /// A file of a generated image.
 fn generated(family: &str, seed: u64) -> Vec<u8> {
     oracle::generate::family(family, seed).file()

@@ -24,23 +24,29 @@ fn a_few_files() {
     folder.write("lost", &generated("lost", 20));
     folder.write("long", &[white(), vec![0]].concat());
     folder.write("crowded", &crowded());
-    let files = ["parcel", "long", "white", "missing", "lost", "crowded"];
+    folder.write("aside", &set_aside());
+    let files = [
+        "parcel", "long", "white", "missing", "lost", "crowded", "aside",
+    ];
     let ran = folder.bullseye(&[&["summary"][..], &files].concat());
     let text = ran.text();
     for (label, count) in [
-        ("searched", "4"),
+        ("searched", "5"),
         ("refused", "1"),
         ("not read", "1"),
-        ("all", "6"),
+        ("all", "7"),
     ] {
         assert_eq!(cells(&text, "Files", label), [count]);
     }
     for label in ["crops whose first box has no turn", "boxes without a turn"] {
         assert_eq!(cells(&text, "Missed", label), ["1", "2", "50.0 %"]);
     }
+    for label in ["empty (8)", "set aside (9)", "too many (7)"] {
+        assert_eq!(cells(&text, "Missed", label), ["1", "5", "20.0 %"]);
+    }
     let label = "searched crops without a box";
-    assert_eq!(cells(&text, "Missed", label), ["2", "4", "50.0 %"]);
-    for (number, count) in (0..).zip(["2", "0", "0", "0", "1", "0", "0", "1", "1"]) {
+    assert_eq!(cells(&text, "Missed", label), ["3", "5", "60.0 %"]);
+    for (number, count) in (0..).zip(["2", "0", "0", "0", "1", "0", "0", "1", "1", "1"]) {
         let label = format!("{number} {}", crops::meaning(number).expect("known"));
         assert_eq!(cells(&text, "Answer", &label), [count]);
     }
@@ -55,6 +61,22 @@ bullseye: long: refused: 4 length does not match the dimensions
 bullseye: missing: no such file
 ";
     assert_eq!((ran.code, ran.err.as_str()), (Some(1), complaints));
+}
+
+/// A table in which 8 stands for empty and set aside alike is counted by what was found.
+#[test]
+fn a_table_with_one_number_for_both() {
+    let folder = Folder::new("summary-both");
+    folder.write("white", &white());
+    folder.write("aside", &set_aside());
+    let table = folder.bullseye(&["table", "white", "aside"]).text();
+    let both = table.replace("aside,9,4,0,", "aside,8,4,0,");
+    assert_ne!(both, table);
+    folder.write("both.csv", both.as_bytes());
+    let text = folder.bullseye(&["summary", "--table", "both.csv"]).text();
+    for label in ["empty (8)", "set aside (9)"] {
+        assert_eq!(cells(&text, "Missed", label), ["1", "2", "50.0 %"]);
+    }
 }
 
 #[test]
@@ -115,7 +137,7 @@ fn missed(grid: Grid) -> [usize; 2] {
 fn the_judges_counts() {
     let folder = Folder::new("summary-judge");
     let mut args = vec!["summary".to_owned()];
-    let mut answers = [0; 9];
+    let mut answers = [0; crops::ANSWERS.len()];
     let (mut crops, mut boxes) = (Grid::default(), Grid::default());
     for (name, file) in of_each_family(15) {
         folder.write(&name, &file);
@@ -138,15 +160,16 @@ fn the_judges_counts() {
     assert_eq!(grid(&text, "Class of boxes"), boxes);
     assert!(crops.iter().all(|row| row[1] > 0), "each class occurs");
     assert_ne!(crops, boxes);
+    let searched = answers[0] + answers[7] + answers[8] + answers[9];
     for (label, expected) in [
         ("crops whose first box has no turn", missed(crops)),
         ("boxes without a turn", missed(boxes)),
+        ("empty (8)", [answers[8], searched]),
+        ("set aside (9)", [answers[9], searched]),
+        ("too many (7)", [answers[7], searched]),
         (
             "searched crops without a box",
-            [
-                answers[7] + answers[8],
-                answers[0] + answers[7] + answers[8],
-            ],
+            [searched - answers[0], searched],
         ),
     ] {
         let seen = &cells(&text, "Missed", label)[..2];

@@ -189,7 +189,10 @@ fn wrong_lines() -> Vec<(String, &'static str)> {
     let two = PARCEL.replace(",0,1,1,", ",0,2,2,");
     let third = two.replace(",16538,1,", ",16538,3,");
     vec![
-        (replaced(",0,1,1,", ",9,1,1,"), "line 2: unknown answer: 9"),
+        (
+            replaced(",0,1,1,", ",10,1,1,"),
+            "line 2: unknown answer: 10",
+        ),
         (replaced(",144,2,", ",144,4,"), "line 2: unknown class: 4"),
         (replaced(",23,1,", ",23,3,"), "line 2: unknown outcome: 3"),
         (
@@ -213,8 +216,24 @@ fn wrong_lines() -> Vec<(String, &'static str)> {
             "line 3: record 2 of parcel should be here",
         ),
         (
-            replaced(",0,1,1,", ",0,1,0,"),
+            replaced(",0,1,1,", ",9,1,0,"),
             "line 2: it has more records than kept 0",
+        ),
+        (
+            replaced(",0,1,1,", ",0,1,0,"),
+            "line 2: answer 0 does not go with found 1 and kept 0",
+        ),
+        (
+            replaced(",0,1,1,", ",9,0,0,"),
+            "line 2: answer 9 does not go with found 0 and kept 0",
+        ),
+        (
+            replaced(",0,1,1,", ",7,1,0,"),
+            "line 2: answer 7 does not go with found 1 and kept 0",
+        ),
+        (
+            replaced(",0,1,1,", ",3,1,0,"),
+            "line 2: answer 3 does not go with found 1 and kept 0",
         ),
         (
             replaced("75.431366,\n", "75.431366\n"),

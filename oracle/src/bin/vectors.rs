@@ -1,7 +1,9 @@
 //! Chooses the stored vectors: for each row of the coverage table the smallest crop that hits it, some of every family,
 //! damaged files for each refusal, and the crops of a folder (Zint's symbols).
 //!
-//! usage: vectors OUT [--seeds N] [FOLDER]
+//! With `--again` OUT's own crops are answered anew, and those are added that a changed rule brings among the chosen.
+//!
+//! usage: vectors OUT [--seeds N] [--again | FOLDER]
 
 #[cfg(not(source))]
 fn main() {
@@ -12,6 +14,7 @@ fn main() {
 #[cfg(source)]
 fn main() {
     let mut seeds = 40_000;
+    let mut again = false;
     let mut paths = Vec::new();
     let mut arguments = std::env::args().skip(1);
     while let Some(word) = arguments.next() {
@@ -22,14 +25,18 @@ fn main() {
                     .and_then(|n| n.parse().ok())
                     .expect("a number")
             }
+            "--again" => again = true,
             _ => paths.push(word),
         }
     }
     let Some(out) = paths.first() else {
-        eprintln!("usage: vectors OUT [--seeds N] [FOLDER]");
+        eprintln!("usage: vectors OUT [--seeds N] [--again | FOLDER]");
         std::process::exit(2);
     };
-    let chosen = choose::all(seeds, paths.get(1).map(std::path::Path::new));
+    let chosen = match again {
+        true => choose::again(&std::fs::read(out).expect("the pack"), seeds),
+        false => choose::all(seeds, paths.get(1).map(std::path::Path::new)),
+    };
     std::fs::write(out, oracle::vectors::write(&chosen)).expect("the pack is written");
     print!("{}", choose::coverage(&chosen).table());
     println!("{} vectors", chosen.len());
@@ -61,6 +68,31 @@ mod choose {
         chosen.extend(refused());
         chosen.extend(lengths_refused());
         chosen.extend(folder.map(stored_crops).unwrap_or_default());
+        chosen
+    }
+
+    /// The stored vectors answered anew, with a count of what changed, and those of the generator that are not among them.
+    pub fn again(pack: &[u8], seeds: u64) -> Vec<Vector> {
+        let stored = oracle::vectors::read(pack);
+        let anew = |v: &Vector| {
+            let lengths = [v.words_len, v.records_len, v.marks_len];
+            Vector::made(&v.name, &v.file, lengths, search_file)
+        };
+        let mut chosen: Vec<Vector> = stored.iter().map(anew).collect();
+        let mut changes = BTreeMap::new();
+        for change in (stored.iter().zip(&chosen)).flat_map(|(old, new)| old.changes(new)) {
+            *changes.entry(change).or_insert(0) += 1;
+        }
+        println!("Change | Vectors\n---|---");
+        for (change, count) in changes {
+            println!("{change} | {count}");
+        }
+        let known = |v: &Vector| stored.iter().any(|old| old.name == v.name);
+        let added: Vec<Vector> = (smallest(seeds).into_iter())
+            .filter(|v| !known(v))
+            .collect();
+        println!("added | {}\n", added.len());
+        chosen.extend(added);
         chosen
     }
 
@@ -101,7 +133,7 @@ mod choose {
         (y == cy && along(x, cx)) || (x == cx && along(y, cy))
     }
 
-    /// The rules' examples that are images, the four eyes of which none is kept, and more than 1,024 candidates.
+    /// The rules' examples that are images, the four eyes that are all set aside, and more than 1,024 candidates.
     fn near_pairs() -> Vec<Vector> {
         let row = |from: u32| {
             painted(33, 33, move |x, y| {

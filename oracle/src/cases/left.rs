@@ -1,12 +1,13 @@
 //! Left sides of cases: crops of every family, answer, outcome and class, small ones, and for each of them calls of every entry with
-//! lengths, kinds, dimensions and bits that are right and wrong.
+//! lengths, kinds, dimensions and bits that are right and wrong. What a rule adds comes last, so that the cases before it stay.
 
 use std::collections::BTreeMap;
 
 use crops::cases::Stock;
 use crops::places::{CLASS, OUTCOME};
 use crops::{
-    HEADER_BYTES, LEAST_SIDE, RECORD_WORDS, dimensions, image_words, pack, set_pixel, words_of,
+    HEADER_BYTES, LEAST_SIDE, RECORD_WORDS, Report, dimensions, image_words, pack, set_pixel,
+    words_of,
 };
 
 use crate::generate::{self, Random};
@@ -52,7 +53,23 @@ fn files(seed: u64, seeds: u64) -> Vec<Vec<u8>> {
     let mut files = vec![pack(&[0; 33], LEAST_SIDE, LEAST_SIDE)];
     files.extend(limits());
     files.extend(refused(seed, seeds));
-    files.extend(searched(seed, seeds));
+    let kept = |family, report: Report, records: &[u32]| {
+        let full = report.answer == 7;
+        Some((
+            family,
+            full,
+            report.kept > 0,
+            records[OUTCOME],
+            records[CLASS],
+        ))
+    };
+    files.extend(searched(seed, seeds, kept));
+    let set_aside = |family, report: Report, _: &[u32]| (report.answer == 9).then_some(family);
+    for file in searched(seed, seeds, set_aside) {
+        if !files.contains(&file) {
+            files.push(file);
+        }
+    }
     files
 }
 
@@ -98,9 +115,13 @@ fn refused(seed: u64, seeds: u64) -> Vec<Vec<u8>> {
     files
 }
 
-/// Crops that are searched, some for each family, answer, outcome and class.
-fn searched(seed: u64, seeds: u64) -> Vec<Vec<u8>> {
-    let mut taken: BTreeMap<_, usize> = BTreeMap::new();
+/// Crops that are searched, some for each row that a family, a report and the records come to.
+fn searched<Row: Ord>(
+    seed: u64,
+    seeds: u64,
+    row: impl Fn(&'static str, Report, &[u32]) -> Option<Row>,
+) -> Vec<Vec<u8>> {
+    let mut taken: BTreeMap<Row, usize> = BTreeMap::new();
     let mut files = Vec::new();
     for crop in (seed..seed + seeds).map(generate::crop) {
         let file = crop.file();
@@ -111,7 +132,9 @@ fn searched(seed: u64, seeds: u64) -> Vec<Vec<u8>> {
         let mut records = vec![0; RECORD_WORDS * 12];
         let (width, height) = (crop.width, crop.height);
         let report = second::search_words(&crop.words, width, height, &mut records, &mut marks);
-        let row = (crop.family, report.answer, records[OUTCOME], records[CLASS]);
+        let Some(row) = row(crop.family, report, &records) else {
+            continue;
+        };
         let count = taken.entry(row).or_default();
         if *count < OF_A_ROW {
             *count += 1;

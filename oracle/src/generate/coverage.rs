@@ -21,7 +21,6 @@ pub struct Coverage {
     pub degrees: [u64; 175],
     /// Turns by scale and degree.
     pub pairs: [[u64; 175]; 5],
-    pub none_kept: u64,
     pub found: [u64; 9],
     pub kept: [u64; 9],
 }
@@ -46,7 +45,6 @@ impl Coverage {
             classes: [0; CLASSES as usize],
             degrees: [0; 175],
             pairs: [[0; 175]; 5],
-            none_kept: 0,
             found: [0; 9],
             kept: [0; 9],
         }
@@ -61,7 +59,6 @@ impl Coverage {
         }
         self.found[row_of(found)] += 1;
         self.kept[row_of(kept)] += 1;
-        self.none_kept += (answer == 8 && found > 0) as u64;
         let (records, _) = records.as_chunks::<RECORD_WORDS>();
         for record in &records[..kept as usize] {
             self.add_record(&known(Record::of_words(record)));
@@ -102,7 +99,6 @@ impl Coverage {
         push("lost centre at scale", 1, 1, &self.lost);
         push("class", 0, 1, &self.classes);
         push("turn of degree", 0, 2, &self.degrees);
-        rows.push(("answer 8 with candidates found".into(), self.none_kept));
         rows
     }
 

@@ -274,7 +274,7 @@ pub fn capacity(random: &mut Random) -> Made {
     (canvas, Some(words))
 }
 
-/// Eyes on the four sides of an empty middle: found, and mostly none kept.
+/// Eyes on the four sides of an empty middle: found, and mostly all set aside.
 pub fn scattered(random: &mut Random) -> Made {
     let exact = random.one_in(8);
     let (a, b) = if exact {

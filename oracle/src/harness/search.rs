@@ -37,10 +37,11 @@ pub(super) fn search_image(image: &BitMatrix, records: &mut [u32]) -> Report {
         boxed(image, circle).write_to(record);
     }
     Report {
-        answer: match (full, kept.is_empty()) {
-            (true, _) => 7,
-            (false, true) => 8,
-            (false, false) => 0,
+        answer: match (found, kept.len()) {
+            _ if full => 7,
+            (0, _) => 8,
+            (_, 0) => 9,
+            _ => 0,
         },
         found: found as u32,
         kept: kept.len() as u32,

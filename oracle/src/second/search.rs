@@ -116,20 +116,23 @@ pub(super) fn search(
     };
     write_records(&mut image, &ranked, capacity, records);
     Report {
-        answer: answer_of(overfull, ranked.len()),
+        answer: answer_of(overfull, candidates.len(), ranked.len()),
         found: candidates.len() as u32,
         kept: ranked.len() as u32,
         marked: count_marks(image.marks),
     }
 }
 
-/// Numbers 7, 8 and 0.
-fn answer_of(overfull: bool, kept: usize) -> u32 {
+/// Numbers 7, 8, 9 and 0.
+fn answer_of(overfull: bool, found: usize, kept: usize) -> u32 {
     if overfull {
         return 7;
     }
-    if kept == 0 {
+    if found == 0 {
         return 8;
+    }
+    if kept == 0 {
+        return 9;
     }
     0
 }

@@ -1,6 +1,6 @@
 -- `detector_verdict::verdict` meets its contract: one lemma for each answer. Assumes nothing.
 use borrow.Author.Needs.{needs}
-use Rattle.detector_verdict.proofs.Judging.{kept-requires, too-many, none-kept, some-kept}
+use Rattle.detector_verdict.proofs.Judging.{kept-requires, too-many, none-found, set-aside, some-kept}
 use Rattle.detector_verdict.proofs.verdict.Statement.{statement}
 use Rattle.detector_verdict.proofs.verdict.Tie as tie
 
@@ -29,7 +29,7 @@ same-length-2 : tie.Need-same-length-2
 same-length-2 c = search needs
 
 returns-2 : tie.Need-returns-2
-returns-2 c = λ candidates holds. search none-kept
+returns-2 c = λ candidates holds. search none-found
 
 counted-requires-3 : tie.Need-counted-requires-3
 counted-requires-3 c κs = search needs
@@ -38,7 +38,16 @@ same-length-3 : tie.Need-same-length-3
 same-length-3 c = search needs
 
 returns-3 : tie.Need-returns-3
-returns-3 c = λ candidates holds. search some-kept
+returns-3 c = λ candidates holds. search set-aside
+
+counted-requires-4 : tie.Need-counted-requires-4
+counted-requires-4 c κs = search needs
+
+same-length-4 : tie.Need-same-length-4
+same-length-4 c = search needs
+
+returns-4 : tie.Need-returns-4
+returns-4 c = λ candidates holds. search some-kept
 
 pub verdict-spec : {M : Type 1} → statement M
 verdict-spec =
@@ -55,4 +64,7 @@ verdict-spec =
     returns-2
     counted-requires-3
     same-length-3
-    returns-3)
+    returns-3
+    counted-requires-4
+    same-length-4
+    returns-4)

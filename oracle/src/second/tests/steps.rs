@@ -126,6 +126,29 @@ fn only_the_middle_center_is_kept() {
 }
 
 #[test]
+fn four_centers_about_an_empty_middle_are_set_aside() {
+    let around = [(12, 24), (36, 24), (24, 12), (24, 36)].map(|(x, y)| candidate_at(x, y));
+    assert_eq!(keep_within_deviation(&around), []);
+}
+
+/// Of one candidate or two, all cannot be set aside: of any two columns the left one is near, of two rows an even number apart, as
+/// the sweep's are, both are, and a candidate is near by its column and its row apart.
+#[test]
+fn of_one_or_two_at_least_one_is_kept() {
+    for a in 0..2048 {
+        assert_eq!(keep_within_deviation(&[candidate_at(a, a)]).len(), 1);
+        for b in a..2048 {
+            let columns = [candidate_at(a, 6), candidate_at(b, 6)];
+            assert!(keep_within_deviation(&columns).contains(&columns[0]));
+        }
+        for b in (a % 2..a).step_by(2) {
+            let rows = [candidate_at(11, a), candidate_at(11, b)];
+            assert_eq!(keep_within_deviation(&rows).len(), 2);
+        }
+    }
+}
+
+#[test]
 fn radius_six_size_and_boundary() {
     let size = plain_size(6);
     let expected_size = SymbolSize {

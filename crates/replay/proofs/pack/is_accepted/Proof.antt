@@ -15,5 +15,8 @@ returns-3 c = search chain
 returns-4 : tie.Need-returns-4
 returns-4 c = search chain
 
+returns-5 : tie.Need-returns-5
+returns-5 c = search chain
+
 pub is-accepted-spec : {M : Type 1} → statement M
-is-accepted-spec = tie.close (tie.spec returns returns-2 returns-3 returns-4)
+is-accepted-spec = tie.close (tie.spec returns returns-2 returns-3 returns-4 returns-5)
