@@ -28,6 +28,13 @@ const LARGE: [u32; 10] = [
 /// Bytes of a file that is longer than any accepted one.
 const LONG_FILE: usize = 70_000;
 
+/// Centres of small eyes that fit the smallest image: one, three, and three that are all set aside.
+const EYES: [&[(usize, usize)]; 3] = [
+    &[(12, 12)],
+    &[(12, 12), (12, 24), (20, 12)],
+    &[(13, 6), (13, 18), (12, 26)],
+];
+
 /// Names for the number of conditions that were spoilt.
 pub const SPOILT: [&str; 8] = ["0", "1", "2", "3", "4", "5", "6", "7"];
 
@@ -222,16 +229,16 @@ impl Caller {
         }
     }
 
-    /// Pixels of one small eye or of three, where there is room; mostly none.
+    /// Pixels of small eyes, where there is room; mostly none.
     fn eye(&mut self, width: u32, height: u32) -> Vec<(usize, usize)> {
         let sides = LEAST_SIDE..=GREATEST_SIDE;
         let fits = sides.contains(&width) && sides.contains(&height);
         if !fits || !self.random.one_in(4) {
             return Vec::new();
         }
-        let eyes = if self.random.one_in(2) { 1 } else { 3 };
-        let mut pixels = Vec::with_capacity(12 * eyes);
-        for (x, y) in [(12, 12), (12, 24), (20, 12)].into_iter().take(eyes) {
+        let eyes = self.random.pick(&EYES);
+        let mut pixels = Vec::with_capacity(12 * eyes.len());
+        for &(x, y) in eyes {
             for arm in [1, 3, 5] {
                 pixels.extend([(x - arm, y), (x + arm, y), (x, y - arm), (x, y + arm)]);
             }
