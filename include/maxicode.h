@@ -12,7 +12,7 @@
 #include <stdint.h>
 #include <string.h>
 
-/* Answers: the first one that is true, in this order, and 0 when none is. */
+/* Answers: the first one that is true, in this order, and 0 when none is. 7 to 9 are a search's alone, 10 is that of cells. */
 #define MAXICODE_ANSWER_KEPT 0        /* candidates are kept */
 #define MAXICODE_ANSWER_NO_HEADER 1   /* no crop header */
 #define MAXICODE_ANSWER_SIDES 2       /* width or height outside 33 to 2,048 */
@@ -23,6 +23,7 @@
 #define MAXICODE_ANSWER_TOO_MANY 7    /* more candidates than the capacity */
 #define MAXICODE_ANSWER_NONE_FOUND 8  /* no candidate is found */
 #define MAXICODE_ANSWER_SET_ASIDE 9   /* every candidate is set aside */
+#define MAXICODE_ANSWER_NO_BLACK 10   /* no pixel is black */
 
 /* Sizes. */
 #define MAXICODE_KIND 1               /* the kind in a crop file's first four bits */
@@ -38,6 +39,8 @@
 #define MAXICODE_REPORT_BYTES 80      /* bytes that hold the line of any report */
 #define MAXICODE_RECORD_BYTES 200     /* bytes that hold the line of any record */
 #define MAXICODE_CLASSES 4            /* handling classes, from 0 on */
+#define MAXICODE_CELL_ROWS 33         /* rows of cells, and words of a cell buffer */
+#define MAXICODE_CELL_COLUMNS 30      /* cells of a row */
 
 /* Fields: the place of each in a record. Pixels count from the crop's top left, x to the right, y downwards. */
 #define MAXICODE_FIELD_CENTER_X 0       /* pixels: the centre as found */
@@ -88,6 +91,18 @@ struct maxicode_report maxicode_search_words(const uint64_t *words, size_t words
 struct maxicode_report maxicode_search_file(const uint8_t *file, size_t file_len, uint64_t *words, size_t words_len,
                                             uint32_t *records, size_t records_len, uint64_t *marks, size_t marks_len);
 
+/* Reads the cells of a lone symbol in an image in words: MAXICODE_CELL_ROWS rows, a word each, of MAXICODE_CELL_COLUMNS cells, column c
+ * at bit c, 1 is black; the bits above are zeros. The cells lie in the enclosing rectangle of the black pixels; docs/MANUAL.md says
+ * where. Returns 0 with the cells written; a refusal, 6 for a cell buffer of another length than MAXICODE_CELL_ROWS; or
+ * MAXICODE_ANSWER_NO_BLACK, with the cells as they were. */
+uint32_t maxicode_cells_words(const uint64_t *words, size_t words_len, uint32_t width, uint32_t height, uint32_t *cells,
+                              size_t cells_len);
+
+/* The same of a crop file, which it unpacks into `words`, exactly as many as the image has, else 6. They are written with 0 and with
+ * MAXICODE_ANSWER_NO_BLACK. */
+uint32_t maxicode_cells_file(const uint8_t *file, size_t file_len, uint64_t *words, size_t words_len, uint32_t *cells,
+                             size_t cells_len);
+
 /* Puts the lines of a run, as the program `find` prints them, at the start of `text`, and returns how long they are; no zero follows
  * them. A buffer of less than MAXICODE_REPORT_BYTES + MAXICODE_RECORD_BYTES * kept, or fewer records lent than kept: nothing is
  * written, and the length is 0. */
@@ -98,7 +113,7 @@ size_t maxicode_lines(uint32_t answer, uint32_t found, uint32_t kept, uint32_t m
 }
 #endif
 
-/* Whether a search with this answer was refused: nothing but the answer is to be looked at then. */
+/* Whether a call with this answer was refused: nothing but the answer is to be looked at then. */
 static inline int maxicode_refused(uint32_t answer) {
     return MAXICODE_ANSWER_NO_HEADER <= answer && answer <= MAXICODE_ANSWER_BUFFER;
 }

@@ -11,7 +11,7 @@ use crate::clock;
 use crate::sets::{Set, image};
 use crate::source::{Logged, Plain, Source, prepared};
 use crate::steps::records;
-use crate::whole;
+use crate::{table, whole};
 
 const HEADER: &str = "\
 | Crops | Unpack | Sweep | Kept | Turn |
@@ -280,8 +280,5 @@ fn line(set: &Set) -> String {
 }
 
 pub fn print(sets: &[Set]) {
-    println!("{HEADER}");
-    for set in sets {
-        println!("{}", line(set));
-    }
+    table::print(HEADER, sets, line);
 }

@@ -3,7 +3,7 @@
 use crops::RECORD_WORDS;
 use oracle::generate::{self, Crop, Random};
 use oracle::harness::steps::Image;
-use oracle::vectors;
+use oracle::{upright, vectors};
 
 /// Records of a buffer, where a set needs no other number.
 const RECORDS: usize = 100;
@@ -118,22 +118,72 @@ fn checkerboard() -> Crop {
     with_room(painted(2048, 250, |x, y| (x + y) % 2 == 1), 1024)
 }
 
-pub fn all() -> Vec<Set> {
+/// Zint's upright symbols, each cut to its black pixels.
+fn upright_symbols() -> Vec<Crop> {
+    let image = |symbol: upright::Symbol| {
+        let unpainted = painted(symbol.width, symbol.height, |_, _| false);
+        Crop {
+            words: symbol.words,
+            ..unpainted
+        }
+    };
+    upright::stored().into_iter().map(image).collect()
+}
+
+/// A crop with so many times as many columns and rows.
+fn enlarged(crop: &Crop, times: u32) -> Crop {
+    let black = |x, y| crops::pixel(&crop.words, crop.width, x / times, y / times);
+    painted(crop.width * times, crop.height * times, black)
+}
+
+/// One colour and noise, wide and tall.
+fn plain() -> Vec<Set> {
     let white = |_, _| false;
     let black = |_, _| true;
     vec![
-        Set::of("noise", family("noise", 0)),
-        Set::of("bull's-eyes", family("eyes", 0)),
-        Set::of("symbols", family("symbols", 0)),
-        Set::of("Zint's symbols", zint()),
-        Set::of("large symbols", family("symbols", 400)),
         Set::one("blank, wide", painted(2048, 250, white)),
         Set::one("black, wide", painted(2048, 250, black)),
         Set::one("noise, wide", noise(2048, 250)),
         Set::one("blank, tall", painted(192, 2048, white)),
         Set::one("black, tall", painted(192, 2048, black)),
         Set::one("noise, tall", noise(192, 2048)),
-        Set::one("grid of 400 eyes", grid()),
-        Set::one("checkerboard", checkerboard()),
     ]
+}
+
+/// The sets that are searched.
+pub fn searched() -> Vec<Set> {
+    let mut sets = vec![
+        Set::of("noise", family("noise", 0)),
+        Set::of("bull's-eyes", family("eyes", 0)),
+        Set::of("symbols", family("symbols", 0)),
+        Set::of("Zint's symbols", zint()),
+        Set::of("large symbols", family("symbols", 400)),
+    ];
+    sets.extend(plain());
+    sets.push(Set::one("grid of 400 eyes", grid()));
+    sets.push(Set::one("checkerboard", checkerboard()));
+    sets
+}
+
+/// The sets whose cells are read.
+pub fn read() -> Vec<Set> {
+    let symbols = upright_symbols();
+    let large = symbols.iter().map(|crop| enlarged(crop, 2)).collect();
+    let mut sets = vec![
+        Set::of("Zint's upright symbols", symbols),
+        Set::of("the same, twice as large", large),
+        Set::of(
+            "rectangles of many kinds",
+            (0..100).map(generate::filling).collect(),
+        ),
+        Set::one("blank, small", painted(33, 33, |_, _| false)),
+        Set::one("black, small", painted(33, 33, |_, _| true)),
+    ];
+    sets.extend(plain());
+    // Where the rectangle takes longest: most words are 0, before the first black pixel or to both sides of it.
+    let pixel = painted(2048, 250, |x, y| (x, y) == (1024, 249));
+    sets.push(Set::one("one pixel, wide", pixel));
+    let column = painted(2048, 250, |x, _| x == 1024);
+    sets.push(Set::one("one column, wide", column));
+    sets
 }

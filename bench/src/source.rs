@@ -1,4 +1,4 @@
-//! The source's search and its steps on a prepared image, with its log and without, under one trait.
+//! The source's search, its cells and its steps on a prepared image, with its log and without, under one trait.
 
 use oracle::Report;
 use oracle::generate::Crop;
@@ -9,6 +9,8 @@ pub trait Source {
     fn new(crop: &Crop) -> Self;
 
     fn search(&self, records: &mut [u32]) -> Report;
+
+    fn cells(&self, cells: &mut [u32]) -> u32;
 
     fn sweep(&self, capacity: usize) -> u32;
 
@@ -31,6 +33,10 @@ macro_rules! source {
 
             fn search(&self, records: &mut [u32]) -> Report {
                 self.search(records)
+            }
+
+            fn cells(&self, cells: &mut [u32]) -> u32 {
+                self.cells(cells)
             }
 
             fn sweep(&self, capacity: usize) -> u32 {

@@ -1,16 +1,11 @@
 //! The table of whole searches.
 
-use std::collections::BTreeMap;
-
 use oracle::generate::Crop;
 use oracle::{Report, harness};
 
-use crate::clock::{self, Ratio};
 use crate::sets::Set;
 use crate::source::{Logged, Plain, Source, prepared};
-
-/// Nanoseconds that a timed run lasts at least, by repetition.
-const LEAST_RUN: f64 = 300_000.0;
+use crate::table;
 
 const HEADER: &str = "\
 | Crops | Size | Answers | Found | Kept | Product, µs | Logged Rust, µs | Ratio | Rust without log, µs | Ratio |
@@ -57,23 +52,13 @@ pub fn agreed(crop: &Crop) -> Report {
     ours.report
 }
 
-/// Answers with their counts where there are several, and how many were found and kept.
+/// The answers, and how many were found and kept.
 fn results(crops: &[Crop]) -> String {
-    let mut answers: BTreeMap<u32, usize> = BTreeMap::new();
-    let (mut found, mut kept) = (0, 0);
-    for report in crops.iter().map(agreed) {
-        *answers.entry(report.answer).or_default() += 1;
-        found += report.found;
-        kept += report.kept;
-    }
-    let several = crops.len() > 1;
-    let answers: Vec<_> = (answers.iter())
-        .map(|(answer, count)| match several {
-            true => format!("{answer} ({count})"),
-            false => answer.to_string(),
-        })
-        .collect();
-    format!("{} | {found} | {kept}", answers.join(", "))
+    let reports: Vec<_> = crops.iter().map(agreed).collect();
+    let answers: Vec<_> = reports.iter().map(|report| report.answer).collect();
+    let found: u32 = reports.iter().map(|report| report.found).sum();
+    let kept: u32 = reports.iter().map(|report| report.kept).sum();
+    format!("{} | {found} | {kept}", table::answers(&answers))
 }
 
 /// The record buffers of crops.
@@ -83,33 +68,25 @@ fn buffers(crops: &[Crop]) -> Vec<Vec<u32>> {
         .collect()
 }
 
-/// All crops searched by the product, so often; nanoseconds.
-fn ours(crops: &[Crop], often: usize) -> impl FnMut() -> f64 {
+/// All crops searched by the product.
+fn ours(crops: &[Crop]) -> impl FnMut() {
     let mut records = buffers(crops);
     let mut marks: Vec<_> = crops.iter().map(|crop| vec![0; crop.words.len()]).collect();
     move || {
-        clock::time((), |()| {
-            for _ in 0..often {
-                for ((crop, records), marks) in crops.iter().zip(&mut records).zip(&mut marks) {
-                    bullseye::search_words(&crop.words, crop.width, crop.height, records, marks);
-                }
-            }
-        })
+        for ((crop, records), marks) in crops.iter().zip(&mut records).zip(&mut marks) {
+            bullseye::search_words(&crop.words, crop.width, crop.height, records, marks);
+        }
     }
 }
 
 /// The same by the source.
-fn theirs<S: Source>(crops: &[Crop], often: usize) -> impl FnMut() -> f64 {
+fn theirs<S: Source>(crops: &[Crop]) -> impl FnMut() {
     let images: Vec<S> = prepared(crops);
     let mut records = buffers(crops);
     move || {
-        clock::time((), |()| {
-            for _ in 0..often {
-                for (image, records) in images.iter().zip(&mut records) {
-                    image.search(records);
-                }
-            }
-        })
+        for (image, records) in images.iter().zip(&mut records) {
+            image.search(records);
+        }
     }
 }
 
@@ -117,29 +94,17 @@ fn theirs<S: Source>(crops: &[Crop], often: usize) -> impl FnMut() -> f64 {
 fn line(set: &Set) -> String {
     let crops = &set.crops;
     let results = results(crops);
-    let once = ours(crops, 1)();
-    let often = (LEAST_RUN / once).ceil() as usize;
-    let [ours, logged, plain] = clock::alternate([
-        &mut ours(crops, often),
-        &mut theirs::<Logged>(crops, often),
-        &mut theirs::<Plain>(crops, often),
-    ]);
-    let each = |times: &[f64]| clock::median(times) / (often * crops.len()) as f64 / 1000.0;
-    format!(
-        "| {} | {} | {results} | {:.2} | {:.2} | {} | {:.2} | {} |",
-        set.name,
-        set.size(),
-        each(&ours),
-        each(&logged),
-        Ratio::of(&ours, &logged),
-        each(&plain),
-        Ratio::of(&ours, &plain),
-    )
+    let columns = table::columns(
+        crops.len(),
+        [
+            &mut ours(crops),
+            &mut theirs::<Logged>(crops),
+            &mut theirs::<Plain>(crops),
+        ],
+    );
+    format!("| {} | {} | {results} | {columns} |", set.name, set.size())
 }
 
 pub fn print(sets: &[Set]) {
-    println!("{HEADER}");
-    for set in sets {
-        println!("{}", line(set));
-    }
+    table::print(HEADER, sets, line);
 }

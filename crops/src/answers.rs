@@ -34,7 +34,7 @@ const fn row(number: u32, meaning: &'static str, kind: Kind) -> Answer {
     }
 }
 
-/// Every answer, in the order of the numbers.
+/// Every answer of a search, in the order of the numbers.
 pub const ANSWERS: &[Answer] = &[
     row(0, "candidates are kept", Kind::Searched),
     row(1, "no crop header", Kind::RefusedImage),
@@ -55,7 +55,13 @@ pub const ANSWERS: &[Answer] = &[
 /// What `check`'s 0 says: the file would be searched.
 pub const ACCEPTED: &str = "accepted";
 
-/// The answer of a number.
+/// What 0 says of cells.
+pub const READ: &str = "the cells are read";
+
+/// The answer that cells alone have: the image is accepted, and the cells are as they were.
+pub const BLANK: u32 = 10;
+
+/// The answer of a search with a number.
 pub fn answer(number: u32) -> Result<&'static Answer, Unknown> {
     let what = "answer";
     (ANSWERS.iter())
@@ -74,6 +80,17 @@ pub fn check_meaning(number: u32) -> Result<&'static str, Unknown> {
     match answer(number) {
         _ if number == 0 => Ok(ACCEPTED),
         Ok(answer) if answer.kind == Kind::RefusedImage => Ok(answer.meaning),
+        _ => Err(Unknown { what, number }),
+    }
+}
+
+/// What an answer of cells says: 0, the numbers that refuse an image or a buffer, and [`BLANK`].
+pub fn cells_meaning(number: u32) -> Result<&'static str, Unknown> {
+    let what = "answer of cells";
+    match answer(number) {
+        _ if number == 0 => Ok(READ),
+        _ if number == BLANK => Ok("no pixel is black"),
+        Ok(answer) if answer.refused() => Ok(answer.meaning),
         _ => Err(Unknown { what, number }),
     }
 }
@@ -101,6 +118,17 @@ mod tests {
         for number in [6, 7, 8, 9, 10] {
             let unknown = check_meaning(number).unwrap_err().to_string();
             assert_eq!(unknown, format!("unknown number of a check: {number}"));
+        }
+    }
+    #[test]
+    fn cells_have_an_answer_of_their_own_and_none_of_a_search() {
+        assert_eq!(cells_meaning(0), Ok(READ));
+        assert_eq!(cells_meaning(6), Ok("a buffer of the wrong length"));
+        assert_eq!(cells_meaning(BLANK), Ok("no pixel is black"));
+        assert!(answer(BLANK).is_err());
+        for number in [7, 8, 9, 11] {
+            let unknown = cells_meaning(number).unwrap_err().to_string();
+            assert_eq!(unknown, format!("unknown answer of cells: {number}"));
         }
     }
 }

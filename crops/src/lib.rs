@@ -7,7 +7,9 @@ mod record;
 mod sizes;
 mod unknown;
 
-pub use answers::{ACCEPTED, ANSWERS, Answer, Kind, answer, check_meaning, meaning};
+pub use answers::{
+    ACCEPTED, ANSWERS, Answer, BLANK, Kind, READ, answer, cells_meaning, check_meaning, meaning,
+};
 pub use file::{
     clear_pixel, dimensions, image_words, pack, pixel, row_bytes, row_words, set_pixel, unpack,
     unpacked, words_of,

@@ -22,6 +22,10 @@ pub const LONGEST: usize = 65_536;
 /// Words of one record.
 pub const RECORD_WORDS: usize = 40;
 
+/// Rows of a symbol's cells, a word each, and the cells of a row.
+pub const CELL_ROWS: usize = 33;
+pub const CELL_COLUMNS: usize = 30;
+
 /// Records that the program holds.
 pub const RECORDS: usize = 400;
 

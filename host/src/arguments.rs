@@ -13,6 +13,8 @@ pub struct Arguments {
     /// parted by zero bytes.
     pub zero: bool,
     pub json: bool,
+    pub hex: bool,
+    pub svg: bool,
     pub table: bool,
     pub least: bool,
     pub redacted: bool,
@@ -49,6 +51,8 @@ impl Arguments {
             "--list" => self.list = true,
             "-0" => (self.list, self.zero) = (true, true),
             "--json" => self.json = true,
+            "--hex" => self.hex = true,
+            "--svg" => self.svg = true,
             "--table" => self.table = true,
             "--least" => self.least = true,
             "--redacted" => self.redacted = true,
@@ -57,6 +61,15 @@ impl Arguments {
             _ => unreachable!("a command takes {word}, which has no meaning"),
         }
         Ok(())
+    }
+
+    /// Just one file, and the options.
+    pub fn one(mut self) -> Result<(OsString, Self), Problem> {
+        match (self.files.pop(), self.files.is_empty()) {
+            (Some(file), true) => Ok((file, self)),
+            (Some(_), false) => Err(Problem::Usage("more than one file is named".into())),
+            (None, _) => Err(Problem::Usage("no file is named".into())),
+        }
     }
 }
 
@@ -78,12 +91,7 @@ fn named(
     }
 }
 
-/// Just one file, and the options.
+/// The arguments of a command that takes just one file.
 pub fn one(args: &[OsString], takes: &[&str]) -> Result<(OsString, Arguments), Problem> {
-    let mut parsed = Arguments::of(args, takes)?;
-    match (parsed.files.pop(), parsed.files.is_empty()) {
-        (Some(file), true) => Ok((file, parsed)),
-        (Some(_), false) => Err(Problem::Usage("more than one file is named".into())),
-        (None, _) => Err(Problem::Usage("no file is named".into())),
-    }
+    Arguments::of(args, takes)?.one()
 }

@@ -10,6 +10,7 @@ use std::ffi::{OsStr, OsString};
 
 mod blank;
 mod cases;
+mod cells;
 mod certify;
 mod check;
 mod compare;
@@ -45,13 +46,14 @@ pub struct Command {
     pub run: fn(&[OsString]) -> Result<bool, Problem>,
 }
 
-pub const COMMANDS: [&Command; 12] = [
+pub const COMMANDS: [&Command; 13] = [
     &check::COMMAND,
     &find::COMMAND,
     &summary::COMMAND,
     &table::COMMAND,
     &compare::COMMAND,
     &view::COMMAND,
+    &cells::COMMAND,
     &blank::COMMAND,
     &redact::COMMAND,
     &certify::COMMAND,

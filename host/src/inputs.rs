@@ -51,6 +51,14 @@ impl Inputs {
         }
         Ok(Inputs { all, single })
     }
+
+    /// What stands before a file's lines: its name, where there are several.
+    pub fn heading(&self, input: &Input) -> Vec<u8> {
+        match self.single {
+            true => Vec::new(),
+            false => [input.path.as_encoded_bytes(), b":\n"].concat(),
+        }
+    }
 }
 
 /// A file that was named itself.

@@ -40,6 +40,24 @@ mod tunnel {
             marks_len: usize,
         ) -> super::Report;
 
+        pub fn maxicode_cells_words(
+            words: *const u64,
+            words_len: usize,
+            width: u32,
+            height: u32,
+            cells: *mut u32,
+            cells_len: usize,
+        ) -> u32;
+
+        pub fn maxicode_cells_file(
+            file: *const u8,
+            file_len: usize,
+            words: *mut u64,
+            words_len: usize,
+            cells: *mut u32,
+            cells_len: usize,
+        ) -> u32;
+
         pub fn maxicode_lines(
             answer: u32,
             found: u32,
@@ -108,6 +126,48 @@ pub fn search_file(
             records.len(),
             marks.as_mut_ptr(),
             marks.len(),
+        )
+    }
+}
+
+/// Reads the cells of a lone symbol in an unpacked image: 33 rows of 30 in the enclosing rectangle of the black pixels, a word to a
+/// row, column c at bit c. The answer is that of [`crops::cells_meaning`]; the cells, 33 words, are written only when it is 0.
+pub fn cells_words(words: &[u64], width: u32, height: u32, cells: &mut [u32]) -> u32 {
+    // SAFETY: each pointer and the length after it are one slice's, lent for the call.
+    unsafe {
+        tunnel::maxicode_cells_words(
+            words.as_ptr(),
+            words.len(),
+            width,
+            height,
+            cells.as_mut_ptr(),
+            cells.len(),
+        )
+    }
+}
+
+/// Reads the cells of a crop file, which it unpacks into `words`, as many as the image has: with 0 and with [`crops::BLANK`].
+///
+/// ```
+/// use bullseye::crops;
+/// # let file = include_bytes!("../../examples/lone.crop");
+/// let mut words = vec![0; crops::words_of(file)];
+/// let mut cells = [0; crops::CELL_ROWS];
+/// let answer = bullseye::cells_file(file, &mut words, &mut cells);
+/// assert_eq!(crops::cells_meaning(answer), Ok(crops::READ));
+/// let is_black = |column: usize, row: usize| cells[row] >> column & 1 != 0;
+/// assert!(is_black(5, 0) && !is_black(4, 0));
+/// ```
+pub fn cells_file(file: &[u8], words: &mut [u64], cells: &mut [u32]) -> u32 {
+    // SAFETY: each pointer and the length after it are one slice's, lent for the call.
+    unsafe {
+        tunnel::maxicode_cells_file(
+            file.as_ptr(),
+            file.len(),
+            words.as_mut_ptr(),
+            words.len(),
+            cells.as_mut_ptr(),
+            cells.len(),
         )
     }
 }

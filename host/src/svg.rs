@@ -1,6 +1,10 @@
 //! Pieces of an SVG.
 use crate::image::Image;
 
+/// Of the text, in units of the screen.
+pub const FONT: f64 = 13.0;
+const LINE: f64 = 18.0;
+
 /// Text as an element may have it.
 pub fn escaped(text: &str) -> String {
     let mut safe = String::new();
@@ -63,6 +67,22 @@ impl Bounds {
         self.bottom = self.bottom.max(y + 1.0);
     }
 
+    /// Lines of text below the picture, each with its colour, and room for them; a unit of the picture is `zoom` units of the screen wide.
+    pub fn legend(&mut self, lines: &[(&str, String)], zoom: f64) -> String {
+        let (left, top) = (self.left, self.bottom + LINE / zoom);
+        let mut text = String::new();
+        for (place, (colour, words)) in lines.iter().enumerate() {
+            let y = top + LINE / zoom * place as f64;
+            self.right = self.right.max(left + text_width(words) * FONT / zoom);
+            text += &format!(
+                "<text x=\"{left:.2}\" y=\"{y:.2}\" fill=\"{colour}\">{}</text>\n",
+                escaped(words)
+            );
+        }
+        self.bottom = top + LINE / zoom * lines.len() as f64;
+        text
+    }
+
     /// The element's start, with a margin about the picture, all of it on white.
     pub fn start(&self, zoom: f64, font: f64) -> String {
         let margin = 10.0 / zoom;
@@ -77,4 +97,10 @@ viewBox=\"{left:.2} {top:.2} {width:.2} {height:.2}\" font-family=\"monospace\" 
             height * zoom
         )
     }
+}
+
+/// At least the width of a line of text, in units of its font's size; letters of other scripts can be as wide as high.
+fn text_width(line: &str) -> f64 {
+    let width = |letter: char| if letter.is_ascii() { 0.62 } else { 1.1 };
+    line.chars().map(width).sum()
 }

@@ -1,4 +1,4 @@
-//! The two entries of a search, and whose they are here.
+//! The entries of a search and those of cells, and whose they are here.
 
 #[cfg(source)]
 use crate::harness;
@@ -8,17 +8,27 @@ use crate::{Report, second};
 /// An entry that searches an unpacked image of a width and a height.
 pub type SearchWords = fn(&[u64], u32, u32, &mut [u32], &mut [u64]) -> Report;
 
+/// An entry that reads the cells of a crop file, which it unpacks.
+pub type CellsFile = fn(&[u8], &mut [u64], &mut [u32]) -> u32;
+
+/// An entry that reads the cells of an unpacked image of a width and a height.
+pub type CellsWords = fn(&[u64], u32, u32, &mut [u32]) -> u32;
+
 #[derive(Clone, Copy)]
 pub struct Entries {
     pub file: SearchFile,
     pub words: SearchWords,
+    pub cells_file: CellsFile,
+    pub cells_words: CellsWords,
 }
 
-/// The judge's: the source's own search, if its text was here when this was built.
+/// The judge's: the source's own functions, if its text was here when this was built.
 #[cfg(source)]
 pub const JUDGE: Option<Entries> = Some(Entries {
     file: harness::search_file,
     words: harness::search_words,
+    cells_file: harness::cells_file,
+    cells_words: harness::cells_words,
 });
 
 #[cfg(not(source))]
@@ -28,4 +38,6 @@ pub const JUDGE: Option<Entries> = None;
 pub const SECOND: Entries = Entries {
     file: second::search_file,
     words: second::search_words,
+    cells_file: second::cells_file,
+    cells_words: second::cells_words,
 };

@@ -7,13 +7,17 @@ mod coverage;
 mod draw;
 mod families;
 mod files;
+mod filling;
 mod painted;
 mod random;
+mod rectangles;
 
 pub use coverage::Coverage;
 pub use files::{BAD_FAMILIES, BadFile, bad, bad_file};
 pub use random::Random;
+pub use rectangles::{CellCoverage, rectangle_rows};
 
+use canvas::Canvas;
 use families::Made;
 
 /// An image, and the length in u32 words of a record buffer to search it with.
@@ -34,10 +38,14 @@ impl Crop {
     }
 }
 
-type Maker = fn(&mut Random) -> Made;
+/// Parts the numbers of `filling` from those of `crop`.
+const FILLING_SALT: u64 = 0x66_696c_6c69_6e67;
 
-/// Name, share of 100 and maker of each family.
-const MAKERS: [(&str, u32, Maker); 13] = [
+/// A family of images: its name, its share of 100, and its maker.
+type Family<T> = (&'static str, u32, fn(&mut Random) -> T);
+
+/// The families of images that are searched.
+const MAKERS: [Family<Made>; 13] = [
     ("noise", 11, families::noise),
     ("runs", 8, families::runs),
     ("sizes", 2, families::sizes),
@@ -53,29 +61,46 @@ const MAKERS: [(&str, u32, Maker); 13] = [
     ("plain", 1, families::plain),
 ];
 
-const fn names() -> [&'static str; 13] {
-    let mut all = [""; 13];
+const fn names<T, const N: usize>(makers: &[Family<T>; N]) -> [&'static str; N] {
+    let mut all = [""; N];
     let mut k = 0;
-    while k < 13 {
-        all[k] = MAKERS[k].0;
+    while k < N {
+        all[k] = makers[k].0;
         k += 1;
     }
     all
 }
 
 /// The names that `family` takes.
-pub const FAMILIES: &[&str] = &names();
+pub const FAMILIES: &[&str] = &names(&MAKERS);
+
+/// The names of the families that `filling` picks from.
+pub const FILLING: &[&str] = &names(&filling::MAKERS);
+
+/// The place of the family that the next draw picks.
+fn picked<T>(random: &mut Random, makers: &[Family<T>]) -> usize {
+    let mut left = random.below(100);
+    let mut at = 0;
+    while left >= makers[at].1 {
+        left -= makers[at].1;
+        at += 1;
+    }
+    at
+}
 
 /// The image of a seed, of a family that the seed picks.
 pub fn crop(seed: u64) -> Crop {
     let mut random = Random::new(seed);
-    let mut left = random.below(100);
-    let mut at = 0;
-    while left >= MAKERS[at].1 {
-        left -= MAKERS[at].1;
-        at += 1;
-    }
+    let at = picked(&mut random, &MAKERS);
     build(at, random)
+}
+
+/// The image of a seed for cells, of a family that the seed picks.
+pub fn filling(seed: u64) -> Crop {
+    let mut random = Random::new(seed ^ FILLING_SALT);
+    let (family, _, maker) = filling::MAKERS[picked(&mut random, &filling::MAKERS)];
+    let usual = usual_capacity(&mut random);
+    finished(family, maker(&mut random), usual)
 }
 
 /// The image of a seed within a named family; panics on an unknown name.
@@ -90,12 +115,16 @@ fn build(at: usize, mut random: Random) -> Crop {
     let (family, _, maker) = MAKERS[at];
     let usual = usual_capacity(&mut random);
     let (canvas, wanted) = maker(&mut random);
+    finished(family, canvas, wanted.unwrap_or(usual))
+}
+
+fn finished(family: &'static str, canvas: Canvas, capacity_words: usize) -> Crop {
     Crop {
         family,
         width: canvas.width,
         height: canvas.height,
         words: canvas.words,
-        capacity_words: wanted.unwrap_or(usual),
+        capacity_words,
     }
 }
 

@@ -1,4 +1,4 @@
-//! The source's own search, compiled from its text by the replacements that `build.rs` lists.
+//! The source's own search and its reading of cells, compiled from its text by the replacements that `build.rs` lists.
 //!
 //! [`logged`] marks every stored bit that the source reads; [`plain`] is the same text without the log.
 
@@ -13,7 +13,7 @@ mod shims;
 #[cfg(test)]
 mod tests;
 
-pub use logged::steps;
+pub use logged::{cells_file, cells_words, steps};
 pub use record::class;
 
 /// The source's points; they need no image, so both searches share them.

@@ -10,7 +10,8 @@ pub mod lines;
 pub mod options;
 pub mod second;
 pub mod sines;
+pub mod upright;
 pub mod vectors;
 
 pub use crops::{MOST_CANDIDATES, RECORD_WORDS, Report};
-pub use entries::{Entries, JUDGE, SECOND, SearchWords};
+pub use entries::{CellsFile, CellsWords, Entries, JUDGE, SECOND, SearchWords};

@@ -1,6 +1,7 @@
 //! A second reading of the rules: the finder in plain Rust, with none of the source's functions.
 
 mod boundary;
+mod cells;
 mod center;
 mod file;
 mod image;
@@ -14,5 +15,6 @@ mod tests;
 mod turn;
 mod widths;
 
+pub use cells::{Rectangle, cells_file, cells_words, enclosing_rectangle};
 pub use file::check;
 pub use search::{search_file, search_words, unpack_file};

@@ -3,8 +3,10 @@
 use std::collections::BTreeSet;
 use std::fs;
 
-use crops::cases::{Call, Entries, Stock, compared};
+use crops::cases::{Call, Entries, Image, Stock, compared};
 use oracle::cases::{SECOND, made};
+use oracle::generate::CellCoverage;
+use oracle::second;
 
 fn stored(name: &str) -> String {
     let path = format!("{}/cases/{name}", env!("CARGO_MANIFEST_DIR"));
@@ -19,7 +21,7 @@ fn passes(entries: &Entries) {
     });
     let verdict = verdict.unwrap_or_else(|problem| panic!("{problem}"));
     assert_eq!((verdict.failed, verdict.skipped), (0, 0), "{verdict}");
-    assert!(verdict.passed > 2_000, "{verdict}");
+    assert!(verdict.passed > 3_000, "{verdict}");
 }
 
 #[test]
@@ -65,6 +67,11 @@ fn all_answers_are_there() {
         ("unpack file", 0..=6),
         ("search file", 0..=9),
         ("search words", 2..=9),
+        ("cells file", 0..=6),
+        ("cells file", 10..=10),
+        ("cells words", 0..=0),
+        ("cells words", 2..=6),
+        ("cells words", 10..=10),
     ];
     for (entry, answers) in entries {
         for answer in answers {
@@ -72,4 +79,27 @@ fn all_answers_are_there() {
             assert!(seen.contains(&pair), "{entry} with answer {answer}");
         }
     }
+}
+
+/// The rectangles of the crops that cells are read of have every row of their table.
+#[test]
+fn all_rectangles_are_there() {
+    let stock = Stock::parse(&stored("crops.txt")).unwrap_or_else(|problem| panic!("{problem}"));
+    let mut coverage = CellCoverage::default();
+    for line in stored("cases.txt").lines() {
+        let (left, right) = line.split_once(" => answer=").unwrap_or_default();
+        let Ok(Call::Cells { image, .. }) = Call::parse(left) else {
+            continue;
+        };
+        let answer = right.split(' ').next().unwrap_or_default();
+        coverage.add(answer.parse().expect("an answer"));
+        if let (Image::File { file, .. }, "0") = (image, answer) {
+            let (words, width, height) = stock.image(&file.id).expect("a crop");
+            let rectangle =
+                second::enclosing_rectangle(&words, width, height).expect("a black pixel");
+            coverage.add_rectangle(width, height, rectangle);
+        }
+    }
+    let missing = coverage.missing();
+    assert!(missing.is_empty(), "{missing:?}");
 }

@@ -2,7 +2,11 @@
 
 use std::collections::BTreeSet;
 
-use oracle::generate::{BAD_FAMILIES, Coverage, Crop, FAMILIES, bad, bad_file, crop, family};
+use oracle::generate::{
+    BAD_FAMILIES, CellCoverage, Coverage, Crop, FAMILIES, FILLING, bad, bad_file, crop, family,
+    filling,
+};
+use oracle::second::{Rectangle, enclosing_rectangle};
 
 /// FNV-1a over bytes.
 fn digest(mut hash: u64, bytes: &[u8]) -> u64 {
@@ -14,15 +18,20 @@ fn digest(mut hash: u64, bytes: &[u8]) -> u64 {
 
 const START: u64 = 0xcbf2_9ce4_8422_2325;
 
-#[test]
-fn first_crops_have_a_fixed_digest() {
-    let all = (0..200).fold(START, |hash, seed| {
-        let made = crop(seed);
+/// The digest of the first crops that a maker gives.
+fn first_crops(maker: fn(u64) -> Crop) -> u64 {
+    (0..200).fold(START, |hash, seed| {
+        let made = maker(seed);
         let hash = digest(hash, made.family.as_bytes());
         let hash = digest(hash, &(made.capacity_words as u64).to_le_bytes());
         digest(hash, &made.file())
-    });
-    assert_eq!(all, 0x48a9_29e3_5d60_3358);
+    })
+}
+
+#[test]
+fn first_crops_have_a_fixed_digest() {
+    assert_eq!(first_crops(crop), 0x48a9_29e3_5d60_3358);
+    assert_eq!(first_crops(filling), 0xcea1_f40c_4bad_31a7);
 }
 
 #[test]
@@ -48,6 +57,7 @@ fn check_limits(made: &Crop, name: &str) {
 fn limits_hold_and_padding_is_zero() {
     for seed in 0..5000 {
         check_limits(&crop(seed), &format!("seed {seed}"));
+        check_limits(&filling(seed), &format!("filling {seed}"));
     }
     for name in FAMILIES {
         for seed in 0..200 {
@@ -154,4 +164,45 @@ fn coverage_counts_a_record() {
     coverage.add(9, 4, 0, &[]);
     assert_eq!((coverage.answers[9], coverage.found[3]), (1, 1));
     assert!(coverage.table().contains("turn at scale 3 | 1\n"));
+}
+
+/// Every family of crops for cells, and every row of their table but those of refusals.
+#[test]
+fn filling_crops_have_every_rectangle() {
+    let mut seen = BTreeSet::new();
+    let mut coverage = CellCoverage::default();
+    for made in (0..1000).map(filling) {
+        seen.insert(made.family);
+        match enclosing_rectangle(&made.words, made.width, made.height) {
+            Some(rectangle) => {
+                coverage.add(0);
+                coverage.add_rectangle(made.width, made.height, rectangle);
+            }
+            None => coverage.add(crops::BLANK),
+        }
+    }
+    assert_eq!(seen, FILLING.iter().copied().collect());
+    let refusals = (1..=6).map(|number| format!("cells answer {number}"));
+    assert_eq!(coverage.missing(), refusals.collect::<Vec<_>>());
+}
+
+#[test]
+fn rectangles_are_told_apart() {
+    let told = |top, height| {
+        let mut coverage = CellCoverage::default();
+        let rectangle = Rectangle {
+            left: 0,
+            top,
+            width: 40,
+            height,
+        };
+        coverage.add_rectangle(64, 200, rectangle);
+        coverage.table()
+    };
+    assert!(told(0, 200).contains("rectangle at the bottom edge | 1\n"));
+    assert!(told(1, 199).contains("rectangle below the top edge, no row capped | 1\n"));
+    assert!(told(1, 33).contains("rectangle below the top edge, some rows capped | 1\n"));
+    assert!(told(32, 33).contains("rectangle below the top edge, some rows capped | 1\n"));
+    assert!(told(33, 33).contains("rectangle below the top edge, all rows capped | 1\n"));
+    assert!(told(40, 1).contains("rectangle lower than 33 | 1\n"));
 }

@@ -113,6 +113,13 @@ impl Canvas {
         records.truncate(report.kept as usize * RECORD_WORDS);
         (report, records)
     }
+
+    /// Answer and cells, which are 7 before.
+    fn cells(&self) -> (u32, [u32; 33]) {
+        let mut cells = [7; 33];
+        let answer = harness::cells_words(&self.words, self.width, self.height, &mut cells);
+        (answer, cells)
+    }
 }
 
 /// The next number of a small generator.
@@ -232,6 +239,72 @@ fn pair_point_and_the_cap() {
 fn pair_class() {
     let classes = [44.0, 46.0, 348.0].map(harness::class);
     assert_eq!(classes, [0, 1, 0]);
+}
+
+/// All thirty cells of a row.
+const ALL_CELLS: u32 = (1 << 30) - 1;
+
+/// A rectangle of one row is read in row 0, wherever it lies.
+#[test]
+fn pair_row_of_cells() {
+    for (row, cells) in [(0, ALL_CELLS), (1, 0), (40, 0)] {
+        let mut canvas = Canvas::white(50, 50);
+        (0..50).for_each(|x| canvas.black(x, row));
+        assert_eq!(
+            steps::enclosing_rectangle(canvas.image()),
+            Some([0, row, 50, 1])
+        );
+        assert_eq!(canvas.cells(), (0, [cells; 33]));
+    }
+}
+
+#[test]
+fn pair_pixel_of_cells() {
+    let mut canvas = Canvas::white(50, 50);
+    assert_eq!(canvas.cells(), (10, [7; 33]));
+    canvas.black(49, 0);
+    assert_eq!(
+        steps::enclosing_rectangle(canvas.image()),
+        Some([49, 0, 1, 1])
+    );
+    assert_eq!(canvas.cells(), (0, [ALL_CELLS; 33]));
+}
+
+/// A cell of an odd row is half a cell further: columns 1 and 2 of a rectangle of 60 by 66, and at its end both in column 59.
+#[test]
+fn pair_half_column_of_cells() {
+    for (column, even, odd) in [(1, 1, 0), (2, 0, 1), (59, 1 << 29, 1 << 29)] {
+        let mut canvas = Canvas::white(60, 66);
+        (1..66).for_each(|y| canvas.black(column, y));
+        canvas.black(0, 0);
+        canvas.black(59, 0);
+        let rows = [even, odd].into_iter().cycle().take(33);
+        assert!(canvas.cells().1.into_iter().eq(rows), "column {column}");
+    }
+}
+
+/// A rectangle of 33 rows at the top edge, below it with rows from 12 on read in row 32, and with all read there, above the rectangle.
+#[test]
+fn pair_cap_of_cells() {
+    for (top, row, seen) in [
+        (0, 15, Some(15)),
+        (20, 25, Some(5)),
+        (20, 40, None),
+        (33, 48, None),
+    ] {
+        let mut canvas = Canvas::white(40, 66);
+        (0..40).for_each(|x| canvas.black(x, row));
+        canvas.black(0, top);
+        canvas.black(39, top + 32);
+        assert_eq!(
+            steps::enclosing_rectangle(canvas.image()),
+            Some([0, top, 40, 33])
+        );
+        let (answer, cells) = canvas.cells();
+        assert_eq!(answer, 0);
+        let full = cells.iter().position(|word| *word == ALL_CELLS);
+        assert_eq!(full, seen, "top {top}, row {row}");
+    }
 }
 
 /// Fact 1: from a black centre the corrected centre is (0,0).

@@ -80,4 +80,5 @@ def main():
         (folder / f"zint-{number:04}-{degree:03}.crop").write_bytes(crop_file(rows))
 
 
-main()
+if __name__ == "__main__":
+    main()

@@ -1,43 +1,43 @@
-//! Slices to lend, between guard cells that nobody may change.
+//! Slices to lend, between guards that nobody may change.
 
 use std::ops::Range;
 
-/// Guard cells on either side of a slice.
+/// Guards on either side of a slice.
 const GUARD: usize = 16;
 
-/// A cell of a lent slice, cut out of a number.
-pub trait Cell: Copy + PartialEq {
+/// An element of a lent slice, cut out of a number.
+pub trait Element: Copy + PartialEq {
     fn cut(number: u64) -> Self;
 }
 
-impl Cell for u8 {
+impl Element for u8 {
     fn cut(number: u64) -> Self {
         number as u8
     }
 }
 
-impl Cell for u32 {
+impl Element for u32 {
     fn cut(number: u64) -> Self {
         number as u32
     }
 }
 
-impl Cell for u64 {
+impl Element for u64 {
     fn cut(number: u64) -> Self {
         number
     }
 }
 
-/// A slice to lend. Every cell holds its part of a pattern until something is written there.
+/// A slice to lend. Every element holds its part of a pattern until something is written there.
 pub struct Guarded<T> {
     guards: bool,
     salt: u64,
     pattern: Vec<T>,
-    cells: Vec<T>,
+    elements: Vec<T>,
     lent: Range<usize>,
 }
 
-impl<T: Cell> Guarded<T> {
+impl<T: Element> Guarded<T> {
     /// Another salt is another pattern. Without guards each slice is a block of memory of its own, so that valgrind sees
     /// every step beyond it.
     pub fn new(guards: bool, salt: u64) -> Self {
@@ -45,21 +45,21 @@ impl<T: Cell> Guarded<T> {
             guards,
             salt,
             pattern: Vec::new(),
-            cells: Vec::new(),
+            elements: Vec::new(),
             lent: 0..0,
         }
     }
 
-    /// Lends a slice of the pattern, so many cells after the least place.
+    /// Lends a slice of the pattern, so many elements after the least place.
     pub fn lend(&mut self, length: usize, shift: usize) {
         let (guard, shift) = if self.guards { (GUARD, shift) } else { (0, 0) };
         let start = guard + shift;
         let whole = start + length + guard;
         self.grow(whole);
         if self.guards {
-            self.cells[..whole].copy_from_slice(&self.pattern[..whole]);
+            self.elements[..whole].copy_from_slice(&self.pattern[..whole]);
         } else {
-            self.cells = self.pattern[..whole].to_vec();
+            self.elements = self.pattern[..whole].to_vec();
         }
         self.lent = start..start + length;
     }
@@ -76,21 +76,22 @@ impl<T: Cell> Guarded<T> {
             let number = (place as u64 + 1).wrapping_mul(0x9e37_79b9_7f4a_7c15) ^ salt;
             self.pattern.push(T::cut(number ^ number >> 32));
         }
-        if self.guards && self.cells.len() < whole {
-            self.cells.extend(&self.pattern[self.cells.len()..whole]);
+        if self.guards && self.elements.len() < whole {
+            self.elements
+                .extend(&self.pattern[self.elements.len()..whole]);
         }
     }
 
     pub fn slice(&self) -> &[T] {
-        &self.cells[self.lent.clone()]
+        &self.elements[self.lent.clone()]
     }
 
     pub fn slice_mut(&mut self) -> &mut [T] {
-        &mut self.cells[self.lent.clone()]
+        &mut self.elements[self.lent.clone()]
     }
 
-    fn as_at_first(&self, cells: Range<usize>) -> bool {
-        self.cells[cells.clone()] == self.pattern[cells]
+    fn as_at_first(&self, elements: Range<usize>) -> bool {
+        self.elements[elements.clone()] == self.pattern[elements]
     }
 
     /// Whether the slice still is the pattern that was lent.
@@ -98,7 +99,7 @@ impl<T: Cell> Guarded<T> {
         self.as_at_first(self.lent.clone())
     }
 
-    /// Whether the guard cells are as they were.
+    /// Whether the guards are as they were.
     pub fn guards_hold(&self) -> bool {
         let end = self.lent.end;
         let after = if self.guards { end + GUARD } else { end };
@@ -111,7 +112,7 @@ mod tests {
     use super::*;
 
     #[test]
-    fn a_written_cell_is_noticed() {
+    fn a_written_element_is_noticed() {
         let mut buffer: Guarded<u32> = Guarded::new(true, 0);
         for shift in [0, 3] {
             buffer.lend(5, shift);
@@ -120,7 +121,7 @@ mod tests {
             assert!(!buffer.untouched() && buffer.guards_hold());
             for place in [buffer.lent.start - 1, buffer.lent.end] {
                 buffer.lend(5, shift);
-                buffer.cells[place] ^= 1;
+                buffer.elements[place] ^= 1;
                 assert!(buffer.untouched() && !buffer.guards_hold());
             }
         }
@@ -135,6 +136,6 @@ mod tests {
         let mut bare: Guarded<u8> = Guarded::new(false, 0);
         bare.hold(&[1, 2, 3], 1);
         assert_eq!(bare.slice(), [1, 2, 3]);
-        assert_eq!(bare.cells.len(), 3);
+        assert_eq!(bare.elements.len(), 3);
     }
 }

@@ -2,10 +2,11 @@
 
 use std::fmt::LowerHex;
 
+use crops::{BLANK, CELL_ROWS, known};
 use oracle::generate::Crop;
 use oracle::{Entries, Report};
 
-use crate::buffers::{Cell, Guarded};
+use crate::buffers::{Element, Guarded};
 
 /// An image, as a crop file or as words with their width and height.
 #[derive(Clone, Copy, Debug)]
@@ -14,29 +15,56 @@ pub enum Input<'a> {
     Words(&'a [u64], u32, u32),
 }
 
-/// An input, and the lengths of the lent buffers. Words to unpack into are lent only with a file.
+/// What is asked of an entry, with the lengths of the buffers that it is lent for that.
+#[derive(Clone, Copy, Debug)]
+pub enum Asked {
+    Search { records: usize, marks: usize },
+    Cells { cells: usize },
+}
+
+/// An input, what is asked of it, and the length of the words to unpack into, which are lent only with a file.
 #[derive(Clone, Copy, Debug)]
 pub struct Call<'a> {
     pub input: Input<'a>,
     pub words: usize,
-    pub records: usize,
-    pub marks: usize,
-    /// How many cells further than at least the buffers begin.
+    pub asked: Asked,
+    /// How many elements further than at least the buffers begin.
     pub shift: usize,
 }
 
 impl<'a> Call<'a> {
-    /// A call with buffers that fit the image, as a file if one is given.
+    /// A search with buffers that fit the image, as a file if one is given.
     pub fn fitting(crop: &'a Crop, file: Option<&'a [u8]>, records: usize) -> Self {
+        let marks = crop.words.len();
+        Self::of(crop, file, Asked::Search { records, marks })
+    }
+
+    /// Cells with buffers that fit the image, as a file if one is given.
+    pub fn cells(crop: &'a Crop, file: Option<&'a [u8]>) -> Self {
+        let cells = CELL_ROWS;
+        Self::of(crop, file, Asked::Cells { cells })
+    }
+
+    fn of(crop: &'a Crop, file: Option<&'a [u8]>, asked: Asked) -> Self {
         Call {
             input: match file {
                 Some(file) => Input::File(file),
                 None => Input::Words(&crop.words, crop.width, crop.height),
             },
             words: crop.words.len(),
-            records,
-            marks: crop.words.len(),
+            asked,
             shift: crop.words.len() % 8,
+        }
+    }
+
+    /// Whether an answer refuses the image or a buffer; stops at a number that this call's table does not have.
+    fn refused(&self, answer: u32) -> bool {
+        match self.asked {
+            Asked::Search { .. } => known(crops::answer(answer)).refused(),
+            Asked::Cells { .. } => {
+                known(crops::cells_meaning(answer));
+                answer != 0 && answer != BLANK
+            }
         }
     }
 }
@@ -48,6 +76,7 @@ pub struct Buffers {
     words: Guarded<u64>,
     records: Guarded<u32>,
     marks: Guarded<u64>,
+    cells: Guarded<u32>,
 }
 
 impl Buffers {
@@ -59,34 +88,60 @@ impl Buffers {
             words: Guarded::new(guards, salt),
             records: Guarded::new(guards, 0),
             marks: Guarded::new(guards, salt),
+            cells: Guarded::new(guards, 0),
         }
     }
 
-    /// Calls an entry in fresh buffers.
+    /// Calls an entry in fresh buffers. Cells have an answer alone: the counts are 0.
     pub fn run(&mut self, entries: &Entries, call: &Call) -> Report {
-        self.records.lend(call.records, call.shift);
-        self.marks.lend(call.marks, call.shift);
         match call.input {
             Input::File(file) => {
                 self.file.hold(file, call.shift);
                 self.words.lend(call.words, call.shift);
-                (entries.file)(
-                    self.file.slice(),
-                    self.words.slice_mut(),
-                    self.records.slice_mut(),
-                    self.marks.slice_mut(),
-                )
             }
-            Input::Words(image, width, height) => {
+            Input::Words(image, ..) => {
                 self.image.hold(image, call.shift);
                 self.words.lend(0, 0);
-                (entries.words)(
-                    self.image.slice(),
-                    width,
-                    height,
-                    self.records.slice_mut(),
-                    self.marks.slice_mut(),
-                )
+            }
+        }
+        let (records, marks, cells) = match call.asked {
+            Asked::Search { records, marks } => (records, marks, 0),
+            Asked::Cells { cells } => (0, 0, cells),
+        };
+        self.records.lend(records, call.shift);
+        self.marks.lend(marks, call.shift);
+        self.cells.lend(cells, call.shift);
+        match call.asked {
+            Asked::Search { .. } => self.search(entries, &call.input),
+            Asked::Cells { .. } => Report {
+                answer: self.read_cells(entries, &call.input),
+                ..Report::default()
+            },
+        }
+    }
+
+    fn search(&mut self, entries: &Entries, input: &Input) -> Report {
+        let (records, marks) = (self.records.slice_mut(), self.marks.slice_mut());
+        match *input {
+            Input::File(_) => {
+                let words = self.words.slice_mut();
+                (entries.file)(self.file.slice(), words, records, marks)
+            }
+            Input::Words(_, width, height) => {
+                (entries.words)(self.image.slice(), width, height, records, marks)
+            }
+        }
+    }
+
+    fn read_cells(&mut self, entries: &Entries, input: &Input) -> u32 {
+        let cells = self.cells.slice_mut();
+        match *input {
+            Input::File(_) => {
+                let words = self.words.slice_mut();
+                (entries.cells_file)(self.file.slice(), words, cells)
+            }
+            Input::Words(_, width, height) => {
+                (entries.cells_words)(self.image.slice(), width, height, cells)
             }
         }
     }
@@ -101,10 +156,13 @@ impl Buffers {
 
     /// Whether the lent buffers are as they were before the call.
     pub fn untouched(&self) -> bool {
-        self.words.untouched() && self.records.untouched() && self.marks.untouched()
+        self.words.untouched()
+            && self.records.untouched()
+            && self.marks.untouched()
+            && self.cells.untouched()
     }
 
-    /// What the call changed that nobody lent: its input, or a guard cell.
+    /// What the call changed that nobody lent: its input, or a guard.
     pub fn trespass(&self, call: &Call) -> Option<&'static str> {
         let (input, guards) = match call.input {
             Input::File(file) => (self.file.slice() == file, self.file.guards_hold()),
@@ -112,33 +170,42 @@ impl Buffers {
         };
         [
             (input, "the input is changed"),
-            (guards, "a cell beside the input is changed"),
+            (guards, "an element beside the input is changed"),
             (
                 self.words.guards_hold(),
-                "a cell beside the words is changed",
+                "an element beside the words is changed",
             ),
             (
                 self.records.guards_hold(),
-                "a cell beside the records is changed",
+                "an element beside the records is changed",
             ),
             (
                 self.marks.guards_hold(),
-                "a cell beside the marks is changed",
+                "an element beside the marks is changed",
+            ),
+            (
+                self.cells.guards_hold(),
+                "an element beside the cells is changed",
             ),
         ]
         .into_iter()
         .find_map(|(holds, what)| (!holds).then_some(what))
     }
 
-    /// The first difference of records or marks.
+    /// The first difference of records, marks or cells.
     pub fn difference(&self, other: &Self) -> Option<String> {
         place("record word", &self.records, &other.records)
             .or_else(|| place("word of marks", &self.marks, &other.marks))
+            .or_else(|| place("row of cells", &self.cells, &other.cells))
     }
 }
 
-/// The first cell that differs, with both contents.
-fn place<T: Cell + LowerHex>(what: &str, ours: &Guarded<T>, other: &Guarded<T>) -> Option<String> {
+/// The first element that differs, with both contents.
+fn place<T: Element + LowerHex>(
+    what: &str,
+    ours: &Guarded<T>,
+    other: &Guarded<T>,
+) -> Option<String> {
     let (ours, other) = (ours.slice(), other.slice());
     if ours == other {
         return None;
@@ -147,7 +214,7 @@ fn place<T: Cell + LowerHex>(what: &str, ours: &Guarded<T>, other: &Guarded<T>) 
     Some(format!("{what} {at}: {:x}, not {:x}", ours[at], other[at]))
 }
 
-/// Two searches side by side.
+/// Two entries side by side.
 pub struct Trial {
     product: Entries,
     judge: Entries,
@@ -165,7 +232,7 @@ impl Trial {
         }
     }
 
-    /// The report of both, or the first difference: reports, records, marks, words, and what must stay as it was.
+    /// The report of both, or the first difference: reports, records, marks, cells, words, and what must stay as it was.
     pub fn compare(&mut self, call: &Call) -> Result<Report, String> {
         let report = self.ours.run(&self.product, call);
         let expected = self.theirs.run(&self.judge, call);
@@ -175,28 +242,32 @@ impl Trial {
         let different = (self.ours.difference(&self.theirs))
             .or_else(|| place("word unpacked", &self.ours.words, &self.theirs.words))
             .or_else(|| self.ours.trespass(call).map(str::to_string))
-            .or_else(|| self.refusal(&report));
+            .or_else(|| self.left_alone(call, &report));
         match different {
             Some(what) => Err(format!("{report:?}, {what}")),
             None => Ok(report),
         }
     }
 
-    /// What a refusal did besides its number.
-    fn refusal(&self, report: &Report) -> Option<String> {
+    /// What is changed that the answer says is as it was.
+    fn left_alone(&self, call: &Call, report: &Report) -> Option<String> {
         let Report {
             answer,
             found,
             kept,
             marked,
         } = *report;
-        if !crops::known(crops::answer(answer)).refused() {
+        let refused = call.refused(answer);
+        let what = if refused && (found, kept, marked) != (0, 0, 0) {
+            "counts after a refusal"
+        } else if refused && !self.ours.untouched() {
+            "a buffer is changed by a refusal"
+        } else if answer == BLANK && !self.ours.cells.untouched() {
+            "cells of a blank image"
+        } else {
             return None;
-        }
-        if (found, kept, marked) != (0, 0, 0) {
-            return Some("counts after a refusal".to_string());
-        }
-        (!self.ours.untouched()).then(|| "a buffer is changed by a refusal".to_string())
+        };
+        Some(what.to_string())
     }
 
     /// The records of the last call.
@@ -207,7 +278,7 @@ impl Trial {
 
 #[cfg(test)]
 mod tests {
-    use oracle::{SECOND, SearchWords, generate};
+    use oracle::{CellsFile, SECOND, SearchWords, generate};
 
     use super::*;
 
@@ -275,6 +346,81 @@ mod tests {
         }
     }
 
+    /// Cells that are wrong in one place, of a crop that has black pixels, and what is said of each.
+    const WRONG_CELLS: [(CellsFile, &str); 4] = [
+        (
+            |file, words, cells| (SECOND.cells_file)(file, words, cells) + 6,
+            "answer: 6",
+        ),
+        (
+            |file, words, cells| {
+                let answer = (SECOND.cells_file)(file, words, cells);
+                cells[32] |= 1 << 30;
+                answer
+            },
+            "row of cells 32",
+        ),
+        (
+            |file, words, cells| {
+                let answer = (SECOND.cells_file)(file, words, cells);
+                cells[7] ^= 1;
+                answer
+            },
+            "row of cells 7",
+        ),
+        (
+            |file, words, cells| {
+                let answer = (SECOND.cells_file)(file, words, cells);
+                words[5] ^= 1;
+                answer
+            },
+            "word unpacked 5",
+        ),
+    ];
+
+    #[test]
+    fn each_wrong_cell_is_noticed() {
+        let crop = generate::family("eyes", 2);
+        let file = crop.file();
+        let call = Call::cells(&crop, Some(&file));
+        let compared = |cells_file| {
+            let product = Entries {
+                cells_file,
+                ..SECOND
+            };
+            Trial::new(product, SECOND, true).compare(&call)
+        };
+        let right = compared(SECOND.cells_file).expect("no difference");
+        assert_eq!(right, Report::default());
+        for (cells_file, what) in WRONG_CELLS {
+            let difference = compared(cells_file).expect_err(what);
+            assert!(difference.contains(what), "{difference}");
+        }
+    }
+
+    /// With 10 the words are unpacked; cells that are written then are noticed even if the other side writes them too.
+    #[test]
+    fn cells_of_a_blank_image_are_noticed() {
+        let writing: Entries = Entries {
+            cells_file: |file, words, cells| {
+                cells.fill(0);
+                (SECOND.cells_file)(file, words, cells)
+            },
+            ..SECOND
+        };
+        let file = crops::pack(&[0; 33], 33, 33);
+        let call = Call {
+            input: Input::File(&file),
+            words: 33,
+            asked: Asked::Cells { cells: 33 },
+            shift: 3,
+        };
+        let right = Trial::new(SECOND, SECOND, true).compare(&call);
+        assert_eq!(right.map(|report| report.answer), Ok(BLANK));
+        let wrong = Trial::new(writing, writing, true).compare(&call);
+        assert!(wrong.is_err_and(|what| what.contains("cells of a blank image")));
+    }
+
     #[test]
     fn a_refusal_that_writes_is_noticed() {
         let writing: Entries = Entries {
@@ -287,8 +433,10 @@ mod tests {
         let call = Call {
             input: Input::File(&[]),
             words: 0,
-            records: 40,
-            marks: 1,
+            asked: Asked::Search {
+                records: 40,
+                marks: 1,
+            },
             shift: 0,
         };
         for (product, noticed) in [(SECOND, false), (writing, true)] {

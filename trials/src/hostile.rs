@@ -1,10 +1,10 @@
 //! Calls that are mostly refused: each condition on the image and on the buffers is spoilt by itself or with others.
 
-use crops::{GREATEST_SIDE, LEAST_SIDE, MOST_WORDS, WORD_BITS, row_bytes, row_words};
+use crops::{CELL_ROWS, GREATEST_SIDE, LEAST_SIDE, MOST_WORDS, WORD_BITS, row_bytes, row_words};
 use oracle::RECORD_WORDS;
 use oracle::generate::Random;
 
-use crate::call::{Call, Input};
+use crate::call::{Asked, Call, Input};
 
 /// Sides next to a limit, and the largest that a header holds.
 const SIDES: [u32; 14] = [
@@ -35,6 +35,9 @@ const EYES: [&[(usize, usize)]; 3] = [
     &[(13, 6), (13, 18), (12, 26)],
 ];
 
+/// Parts the numbers of a seed's cells from those of its search.
+const CELLS_SALT: u64 = 0x63_656c_6c73;
+
 /// Names for the number of conditions that were spoilt.
 pub const SPOILT: [&str; 8] = ["0", "1", "2", "3", "4", "5", "6", "7"];
 
@@ -43,6 +46,8 @@ pub struct Caller {
     file: Vec<u8>,
     words: Vec<u64>,
     random: Random,
+    /// Whether the call asks for cells, not for a search.
+    cells: bool,
     /// A condition is spoilt once in so many.
     rarity: u32,
     spoilt: usize,
@@ -54,6 +59,7 @@ impl Default for Caller {
             file: vec![0; LONG_FILE],
             words: vec![0; LONG_FILE / 8],
             random: Random::new(0),
+            cells: false,
             rarity: 1,
             spoilt: 0,
         }
@@ -61,8 +67,19 @@ impl Default for Caller {
 }
 
 impl Caller {
-    /// Hands the call of a seed to `call`, with the number of conditions that were spoilt.
-    pub fn with_call<T>(&mut self, seed: u64, call: impl FnOnce(&Call, usize) -> T) -> T {
+    /// Hands the search of a seed to `call`, with the number of conditions that were spoilt.
+    pub fn with_search<T>(&mut self, seed: u64, call: impl FnOnce(&Call, usize) -> T) -> T {
+        self.cells = false;
+        self.with_call(seed, call)
+    }
+
+    /// The same with the cells of a seed.
+    pub fn with_cells<T>(&mut self, seed: u64, call: impl FnOnce(&Call, usize) -> T) -> T {
+        self.cells = true;
+        self.with_call(seed ^ CELLS_SALT, call)
+    }
+
+    fn with_call<T>(&mut self, seed: u64, call: impl FnOnce(&Call, usize) -> T) -> T {
         self.random = Random::new(seed);
         self.rarity = self.random.pick(&[2, 4, 8, 32]);
         self.spoilt = 0;
@@ -90,11 +107,9 @@ impl Caller {
         let black = self.file_pixels(width, height, length);
         let needed = row_words(width) * height as usize;
         let words = self.buffer(needed);
-        let lengths = self.lent(needed, words);
-        let result = call(
-            &fitted(Input::File(&self.file[..length]), lengths),
-            self.spoilt,
-        );
+        let asked = self.asked(needed);
+        let input = Input::File(&self.file[..length]);
+        let result = call(&lent(input, words, asked), self.spoilt);
         for (place, _) in black {
             self.file[place] = 0;
         }
@@ -107,9 +122,9 @@ impl Caller {
         let needed = row.saturating_mul(height as usize);
         let length = self.length(needed, row).min(self.words.len());
         let black = self.word_pixels(width, height, length);
-        let lengths = self.lent(needed, 0);
+        let asked = self.asked(needed);
         let input = Input::Words(&self.words[..length], width, height);
-        let result = call(&fitted(input, lengths), self.spoilt);
+        let result = call(&lent(input, 0, asked), self.spoilt);
         for (place, _) in black {
             self.words[place] = 0;
         }
@@ -246,14 +261,30 @@ impl Caller {
         pixels
     }
 
-    /// Lengths of the words to unpack into, which are given, of the records and of the marks.
-    fn lent(&mut self, needed: usize, words: usize) -> [usize; 3] {
+    /// What is asked, with lengths of its buffers.
+    fn asked(&mut self, needed: usize) -> Asked {
+        if self.cells {
+            let cells = self.cells_length();
+            return Asked::Cells { cells };
+        }
         let records = if self.spoil() {
             self.random.below(RECORD_WORDS as u32) as usize
         } else {
             self.random.pick(&[40, 40, 41, 79, 80, 119, 120, 1480])
         };
-        [words, records, self.buffer(needed)]
+        let marks = self.buffer(needed);
+        Asked::Search { records, marks }
+    }
+
+    /// A word for each row of cells, or another length up to twice as many, or beyond.
+    fn cells_length(&mut self) -> usize {
+        if !self.spoil() {
+            return CELL_ROWS;
+        }
+        match self.random.below(4) {
+            0 => self.random.pick(&[0, 1, 32, 34, 40, 1320]),
+            _ => self.random.below(2 * CELL_ROWS as u32 + 1) as usize,
+        }
     }
 
     /// The needed length of a buffer, or one near it or near nothing; never much more than an image may need.
@@ -272,12 +303,16 @@ impl Caller {
     }
 }
 
-fn fitted(input: Input<'_>, [words, records, marks]: [usize; 3]) -> Call<'_> {
+/// A call whose buffers begin at a place that varies with their lengths.
+fn lent(input: Input<'_>, words: usize, asked: Asked) -> Call<'_> {
+    let more = match asked {
+        Asked::Search { records, marks } => records + marks,
+        Asked::Cells { cells } => cells,
+    };
     Call {
         input,
         words,
-        records,
-        marks,
-        shift: (words + records + marks) % 8,
+        asked,
+        shift: (words + more) % 8,
     }
 }

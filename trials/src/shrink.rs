@@ -216,6 +216,27 @@ mod tests {
         assert!(shrunk > 10, "{shrunk}");
     }
 
+    /// Cells with bit 30 set wherever some pixel is black.
+    #[test]
+    fn wrong_cells_shrink_to_one_pixel() {
+        let wrong = Entries {
+            cells_words: |words, width, height, cells| {
+                let answer = (SECOND.cells_words)(words, width, height, cells);
+                if answer == 0 {
+                    cells[4] |= 1 << 30;
+                }
+                answer
+            },
+            ..SECOND
+        };
+        let mut trial = Trial::new(wrong, SECOND, true);
+        let mut differs = |crop: &Crop| trial.compare(&Call::cells(crop, None)).is_err();
+        let crop = generate::family("noise", 3);
+        assert!(differs(&crop));
+        let small = shrink(&crop, differs);
+        assert_eq!((small.width, small.height, black(&small)), (33, 33, 1));
+    }
+
     #[test]
     fn a_difference_of_one_pixel_shrinks_to_it() {
         let differs = |crop: &Crop| {

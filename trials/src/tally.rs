@@ -12,6 +12,8 @@ pub struct Tally {
     pub tried: u64,
     answers: [u64; ANSWERS.len()],
     outcomes: [u64; Outcome::ALL.len()],
+    /// Answers of cells, by their number.
+    cells: BTreeMap<u32, u64>,
     named: BTreeMap<(&'static str, &'static str), u64>,
     pub differences: u64,
 }
@@ -30,6 +32,12 @@ impl Tally {
         }
     }
 
+    /// Counts an answer of cells; stops at a number that they do not have.
+    pub fn cells(&mut self, answer: u32) {
+        known(crops::cells_meaning(answer));
+        *self.cells.entry(answer).or_default() += 1;
+    }
+
     /// Counts a name of a group.
     pub fn add(&mut self, group: &'static str, name: &'static str) {
         *self.named.entry((group, name)).or_default() += 1;
@@ -42,6 +50,9 @@ impl Tally {
         for (count, more) in self.outcomes.iter_mut().zip(other.outcomes) {
             *count += more;
         }
+        for (answer, more) in other.cells {
+            *self.cells.entry(answer).or_default() += more;
+        }
         for (name, more) in other.named {
             *self.named.entry(name).or_default() += more;
         }
@@ -50,7 +61,7 @@ impl Tally {
         self
     }
 
-    /// One line: how many of what was tried, answers, outcomes, then each group.
+    /// One line: how many of what was tried, answers, outcomes, answers of cells if there are any, then each group.
     pub fn line(&self, what: &str) -> String {
         let searches: u64 = self.answers.iter().sum();
         let mut line = format!("{} {what}, {searches} answers;", self.tried);
@@ -59,6 +70,13 @@ impl Tally {
         }
         line += "; outcomes";
         for (number, count) in self.outcomes.iter().enumerate() {
+            let _ = write!(line, " {number}: {count}");
+        }
+        if !self.cells.is_empty() {
+            let reads: u64 = self.cells.values().sum();
+            let _ = write!(line, "; {reads} answers of cells;");
+        }
+        for (number, count) in &self.cells {
             let _ = write!(line, " {number}: {count}");
         }
         let mut last = "";
@@ -97,6 +115,13 @@ mod tests {
         two.differences = 1;
         let line = "2 crops, 1 answers; 0: 1 1: 0 2: 0 3: 0 4: 0 5: 0 6: 0 7: 0 8: 0 9: 0; \
                     outcomes 0: 0 1: 0 2: 1; families noise: 2; 1 differences";
-        assert_eq!(one.merge(two).line("crops"), line);
+        let merged = one.merge(two);
+        assert_eq!(merged.line("crops"), line);
+        let mut cells = Tally::default();
+        for answer in [10, 0, 6, 10] {
+            cells.cells(answer);
+        }
+        let with_cells = "outcomes 0: 0 1: 0 2: 1; 4 answers of cells; 0: 1 6: 1 10: 2; families";
+        assert!(merged.merge(cells).line("crops").contains(with_cells));
     }
 }

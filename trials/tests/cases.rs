@@ -14,6 +14,8 @@ const PRODUCT: Entries = Entries {
     unpack: bullseye::unpack,
     search_file: bullseye::search_file,
     search_words: bullseye::search_words,
+    cells_file: bullseye::cells_file,
+    cells_words: bullseye::cells_words,
     program: None,
 };
 
@@ -25,5 +27,5 @@ fn the_product_gives_the_stored_right_sides() {
     });
     let verdict = verdict.unwrap_or_else(|problem| panic!("{problem}"));
     assert_eq!(verdict.failed, 0, "{verdict}");
-    assert!(verdict.passed > 1_500, "{verdict}");
+    assert!(verdict.passed > 2_500, "{verdict}");
 }

@@ -1,12 +1,12 @@
 -- Near pairs, inputs that the rules tell apart by little, as one table: a field for each case says what a step's definition gives. `cases` proves the
 -- table, by computation. Assumes nothing.
-use Prim.Native.Nat.{ℕ, _+_, _*_, _/_, _%_, _^_}
+use Prim.Native.Nat.{ℕ, _+_, _*_, _-_, _/_, _%_, _^_}
 use mathlib.Core.Bool.{true, false}
 use mathlib.Core.List.{List, [], _∷_, _++_, map, flatMap}
 use mathlib.Core.Path.{_≡_, refl}
 use lib.Count.{ones}
 use lib.Dec.{eqb}
-use lib.ListN.{set, replicate}
+use lib.ListN.{set, replicate, drop}
 use lib.Ieee.{size, round, ofBits, ofInt, add, sub, mul, div, toUnsigned, toSigned}
 use Rattle.ieee.specs.Sign.{abs}
 use Rattle.ieee.specs.Units.{unitsOf}
@@ -44,6 +44,9 @@ use Rattle.detector_boundary.specs.declared.Boundary.{Boundary}
 use Rattle.detector_points.specs.Orientation.{point, adjustedPoint}
 use Rattle.detector_outcome.specs.Outcomes.{quarterOf, classOf, turnedBy}
 use Rattle.rxing_result_point.specs.declared.PointU.{PointU}
+use Rattle.crop_padding.specs.Below.{anyBelow, firsts, number}
+use Rattle.bit_matrix_rectangle.specs.Rectangle.{leastBelow, greatestBelow, enclosingRectangle}
+use Rattle.detector_cells.specs.Cells.{CellsRun, cellsRun, readBits}
 
 -- eleven runs of one length
 abbrev pub equal : ℕ → List ℕ
@@ -80,6 +83,28 @@ threeRows x a b d = (93 ∷ 90 ∷ a) ∷ (93 ∷ 92 ∷ b) ∷ (x ∷ 94 ∷ d)
 abbrev pub raised : ℕ → Boundary
 raised bottom = record { left = 0; right = 60; top = bottom + 66; bottom = bottom }
 
+-- the cells of 33 columns and so many rows of one word each; the list gives the first rows, and the others are white
+abbrev pub cellsIn : ℕ → List ℕ → List ℕ → CellsRun
+cellsIn height rows cells = readBits (shapeOf 33 height) rows cells
+
+-- a row of pixels, and one of cells, that are all black
+abbrev pub fullRow : ℕ
+fullRow = 2 ^ 33 - 1
+
+abbrev pub fullCells : ℕ
+fullCells = 2 ^ 30 - 1
+
+-- 33 rows of cells, even and odd ones by turns
+abbrev pub byTurnsOf : ℕ → ℕ → List ℕ
+byTurnsOf even odd = flatMap (λ (k : ℕ). even ∷ odd ∷ []) (range 0 16) ++ even ∷ []
+
+-- a row that is black at the first and the last of 30 columns; and the cells of 33 such rows, odd ones read half a cell further right
+abbrev pub twoColumns : ℕ
+twoColumns = 2 ^ 29 + 1
+
+abbrev pub byTurns : List ℕ
+byTurns = byTurnsOf twoColumns (3 * 2 ^ 28)
+
 pub record Cases : Type 0 where
   -- eleven runs
   pub runs-all-1 : validWidths (equal 1) ≡ true
@@ -112,12 +137,32 @@ pub record Cases : Type 0 where
   pub turn-44 : (scale : ℕ) (center : PointU) → classOf (turnedBy 44 scale center) ≡ 0
   pub turn-46 : (scale : ℕ) (center : PointU) → classOf (turnedBy 46 scale center) ≡ 1
   pub turn-348 : (scale : ℕ) (center : PointU) → classOf (turnedBy 348 scale center) ≡ 0
+  -- cells, whatever was lent for them: a pixel alone is its own rectangle, and the cap takes the row to 0
+  pub all-white : (cells : List ℕ) → cellsIn 33 [] cells ≡ cellsRun 10 cells
+  pub pixel-in-row-0 : (cells : List ℕ) → cellsIn 33 (2 ^ 5 ∷ []) cells ≡ cellsRun 0 (replicate 33 fullCells)
+  pub pixel-in-row-1 : (cells : List ℕ) → cellsIn 33 (0 ∷ 2 ^ 5 ∷ []) cells ≡ cellsRun 0 (replicate 33 0)
+  pub row-40-alone : (cells : List ℕ) → cellsIn 41 (replicate 40 0 ++ fullRow ∷ []) cells ≡ cellsRun 0 (replicate 33 0)
+  pub all-black : (cells : List ℕ) → cellsIn 33 (replicate 33 fullRow) cells ≡ cellsRun 0 (replicate 33 fullCells)
+  -- a rectangle at the left edge, and three columns on
+  pub left-edge : (cells : List ℕ) → cellsIn 33 (replicate 33 twoColumns) cells ≡ cellsRun 0 byTurns
+  pub three-columns-on : (cells : List ℕ) → cellsIn 33 (replicate 33 (twoColumns * 2 ^ 3)) cells ≡ cellsRun 0 byTurns
+  -- 33 columns, black at the first, at column 10 or 11, and at the last: the half cells are rounded down each by itself
+  pub column-10 : (cells : List ℕ) → cellsIn 33 (replicate 33 (2 ^ 32 + 2 ^ 10 + 1)) cells ≡ cellsRun 0 (byTurnsOf (2 ^ 29 + 2 ^ 9 + 1) (2 ^ 29 + 2 ^ 9))
+  pub column-11 : (cells : List ℕ) → cellsIn 33 (replicate 33 (2 ^ 32 + 2 ^ 11 + 1)) cells ≡ cellsRun 0 (byTurnsOf (2 ^ 29 + 2 ^ 10 + 1) (2 ^ 29))
+  -- two rows, the first of them black: half a row is added before the division by 33
+  pub two-rows : (cells : List ℕ)
+      → cellsIn 33 (fullRow ∷ (2 ^ 32 + 1) ∷ []) cells ≡ cellsRun 0 (replicate 16 fullCells ++ drop 16 (byTurnsOf (2 ^ 29 + 1) (2 ^ 29)))
+  -- black rows 0 and 32, and the same a row further down, where row 33 is not reached
+  pub rows-0-and-32 : (cells : List ℕ)
+      → cellsIn 34 (fullRow ∷ replicate 31 0 ++ fullRow ∷ []) cells ≡ cellsRun 0 (fullCells ∷ replicate 31 0 ++ fullCells ∷ [])
+  pub rows-1-and-33 : (cells : List ℕ) → cellsIn 34 (0 ∷ fullRow ∷ replicate 31 0 ++ fullRow ∷ []) cells ≡ cellsRun 0 (fullCells ∷ replicate 32 0)
 
 pub cases : Cases
 unfolding ones size round ofBits ofInt add sub mul div toUnsigned toSigned abs floor unitsOf rootBy isqrt roundRoot sqrt
     _>>=_ value testBit bitAt range valueOf flatMap pixel tryGet countBlack tryGetArea
     evenRunsPass oddRunsPass validWidths bump total metadata skipWhite windowBy nextBullseyeBy
     widthTo tenthOfWidth further varianceTo expectedArea areaVariance circleVariance filter mean withSquare squares deviation spread near
+    anyBelow firsts number leastBelow greatestBelow enclosingRectangle readBits
     insert sort rank ranked verdict idealSide guessedSize leftShift rightShift boundaryOf adjustedPoint quarterOf
 cases = record {
   runs-all-1 = refl;
@@ -142,4 +187,16 @@ cases = record {
   turn-44 = λ scale center. refl;
   turn-46 = λ scale center. refl;
   turn-348 = λ scale center. refl;
+  all-white = λ cells. refl;
+  pixel-in-row-0 = λ cells. refl;
+  pixel-in-row-1 = λ cells. refl;
+  row-40-alone = λ cells. refl;
+  all-black = λ cells. refl;
+  left-edge = λ cells. refl;
+  three-columns-on = λ cells. refl;
+  column-10 = λ cells. refl;
+  column-11 = λ cells. refl;
+  two-rows = λ cells. refl;
+  rows-0-and-32 = λ cells. refl;
+  rows-1-and-33 = λ cells. refl;
 }

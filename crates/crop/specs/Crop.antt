@@ -66,11 +66,16 @@ unpackRefusal file words = refusalOf fileKind leastSide file (misfit words (file
 abbrev pub fileRefusal : List ℕ → ℕ → ℕ → ℕ → ℕ
 fileRefusal file words marks records = refusalOf fileKind leastSide file (misfit words (fileWords file) || noRoom (fileWords file) marks records)
 
--- of an image in words, with the lengths of the marks and of the record buffer
-unfoldable pub wordsRefusal : List ℕ → ℕ → ℕ → ℕ → ℕ → ℕ
-wordsRefusal words w h marks records =
-    let needed : ℕ = size (shapeOf w h) in
-    imageRefusal leastSide (shapeOf w h) (length words) needed (wordsPadded words w h) (noRoom needed marks records)
+-- of an image in words, where what is lent does not fit or does; and with the lengths of the marks and of the record buffer
+unfoldable pub wordsRefusalOf : List ℕ → ℕ → ℕ → Bool → ℕ
+wordsRefusalOf words w h unfit = imageRefusal leastSide (shapeOf w h) (length words) (size (shapeOf w h)) (wordsPadded words w h) unfit
+
+abbrev pub wordsRefusal : List ℕ → ℕ → ℕ → ℕ → ℕ → ℕ
+wordsRefusal words w h marks records = wordsRefusalOf words w h (noRoom (size (shapeOf w h)) marks records)
+
+-- what an entry comes to: what a refusal with this number gives, or where the number is 0 what follows from the accepted image
+unfoldable pub refusedOr : {A : Type 0} → ℕ → (ℕ → A) → A → A
+refusedOr number refused accepted = cond (eqb number 0) accepted (refused number)
 
 -- ---- what `unpack` leaves
 

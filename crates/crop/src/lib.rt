@@ -1,12 +1,12 @@
 // Crop files and images in words: the number that refuses one, and a file unpacked into words.
 use bit_matrix::Shape;
-ghost use mathlib.Core.Bool.{cond, _||_};
+ghost use mathlib.Core.Bool.{false, cond, _||_};
 ghost use mathlib.Core.Path.{_≡_};
 ghost use Prim.Native.Nat.{_≤_, _<_};
 ghost use lib.ListN.{length};
 ghost use Rattle.bit_matrix.specs.Shape.{rowWords, shapeOf, size};
 ghost use Rattle.crop_sizes.specs.Sizes.{misfit};
-ghost use Rattle.crop.specs.Crop.{header, noRoom, refusal, wordsRefusal, Unpacks};
+ghost use Rattle.crop.specs.Crop.{header, noRoom, refusal, wordsRefusalOf, wordsRefusal, Unpacks};
 ghost use Rattle.crop.specs.CropClauses.{Checks, orSix};
 
 // The kind of a crop file.
@@ -93,7 +93,27 @@ fn search_room(needed: usize, marks_len: usize, records_len: usize) -> u32
     0
 }
 
-// The first of the numbers 2 to 6 that names what is wrong with an image in words, or with the lengths of the marks and of the record buffer, or 0.
+// The first of the numbers 2 to 5 that names what is wrong with an image in words, or 0.
+pub fn check_words(words: &[u64], width: u32, height: u32) -> u32
+    ensures { λ r. ⌜ r ≡ wordsRefusalOf (now (words .entry)) width height false ⌝ }
+{
+    let shape = crop_sizes::shape_of(width, height);
+    let answer = crop_sizes::size_refusal(
+        shape,
+        crop_sizes::LEAST,
+        words.len(),
+        crop_sizes::image_words(shape),
+    );
+    if answer != 0 {
+        return answer;
+    }
+    if crop_padding::words_padded(words, shape) {
+        return 5;
+    }
+    0
+}
+
+// The same with 6 for the lengths of the marks and of the record buffer.
 pub fn words_refusal(
     words: &[u64],
     width: u32,
@@ -103,20 +123,16 @@ pub fn words_refusal(
 ) -> u32
     ensures { λ r. ⌜ r ≡ wordsRefusal (now (words .entry)) width height «marks_len» «records_len» ⌝ }
 {
-    let shape = crop_sizes::shape_of(width, height);
-    let needed = crop_sizes::image_words(shape);
-    let answer = crop_sizes::size_refusal(shape, crop_sizes::LEAST, words.len(), needed);
+    let answer = check_words(words, width, height);
     if answer != 0 {
         return answer;
     }
-    if crop_padding::words_padded(words, shape) {
-        return 5;
-    }
+    let needed = crop_sizes::image_words(crop_sizes::shape_of(width, height));
     search_room(needed, marks_len, records_len)
 }
 
 // The number of a file that was checked, or 6 where the words to unpack into differ in length from its image's, or 0.
-fn unpack_refusal(checked: Checked, words_len: usize) -> u32
+pub fn unpack_refusal(checked: Checked, words_len: usize) -> u32
     requires { ⌜ checked .shape .«row_words» ≡ rowWords (checked .shape .width) ⌝ }
     ensures { λ r. ⌜ r ≡ orSix (checked .answer) (misfit «words_len» (size (checked .shape))) ⌝ }
 {
@@ -129,7 +145,7 @@ fn unpack_refusal(checked: Checked, words_len: usize) -> u32
     0
 }
 
-// The same, or 6 for the lengths of the marks and of the record buffer, or 0.
+// The same with 6 for the lengths of the marks and of the record buffer.
 pub fn file_refusal(checked: Checked, words_len: usize, marks_len: usize, records_len: usize) -> u32
     requires { ⌜ checked .shape .«row_words» ≡ rowWords (checked .shape .width) ⌝ }
     ensures { λ r. ⌜ r ≡ orSix (checked .answer) (misfit «words_len» (size (checked .shape)) || noRoom (size (checked .shape)) «marks_len» «records_len») ⌝ }

@@ -1,9 +1,9 @@
 -- Laws of a test at some number below a bound. Assumes nothing.
-use Prim.Native.Nat.{ℕ, zero, suc, _<_}
+use Prim.Native.Nat.{ℕ, zero, suc, _≤_, _<_}
 use native.Mathlib.Decide.{ℕ-discrete}
 use native.Mathlib.Omega.{arith}
 use mathlib.Core.Bool.{Bool, true, false, cond, false≢true}
-use mathlib.Core.Path.{_≡_, refl, sym, ap, _∙_}
+use mathlib.Core.Path.{_≡_, refl, sym, ap, ap₂, _∙_}
 use Rattle.crop_padding.specs.Below.{anyBelow}
 
 module _ (p : ℕ → Bool) where
@@ -21,6 +21,17 @@ module _ (p : ℕ → Bool) where
   any-found zero h here = absurd (omega arith)
   any-found {i} (suc n) h here = at-or-below (ℕ-discrete i n) h here λ below. any-found n below here
 
+  -- one of which it holds, where it holds of some
+  pub any-witness : (n : ℕ) → anyBelow p n ≡ true → (i : ℕ) × (i < n) × (p i ≡ true)
+  unfolding anyBelow
+  any-witness zero some = absurd (false≢true some)
+  any-witness (suc n) some = go (p n) refl some (any-witness n)
+    where
+      go : (b : Bool) → p n ≡ b → cond b true (anyBelow p n) ≡ true → (anyBelow p n ≡ true → (i : ℕ) × (i < n) × (p i ≡ true))
+          → (i : ℕ) × (i < suc n) × (p i ≡ true)
+      go true here e rest = (n, omega arith, here)
+      go false here e rest = let found = rest e in (found .0, omega (arith, found .1), found .2)
+
   -- it holds of none exactly when it holds of no one
   pub none-holds : {i : ℕ} (n : ℕ) → anyBelow p n ≡ false → i < n → p i ≡ false
   none-holds {i} n none h = go (p i) refl
@@ -33,3 +44,21 @@ module _ (p : ℕ → Bool) where
   unfolding anyBelow
   none-below zero each = refl
   none-below (suc n) each = rw (each n (omega arith)) (none-below n λ i h. each i (omega arith))
+
+-- it holds of none from m on
+pub any-until : (p : ℕ → Bool) (m n : ℕ) → m ≤ n → ((k : ℕ) → m ≤ k → k < n → p k ≡ false) → anyBelow p m ≡ anyBelow p n
+unfolding anyBelow
+any-until p m zero most none =
+    let same : m ≡ 0 = omega arith in
+    ap (anyBelow p) same
+any-until p m (suc n) most none = go (ℕ-discrete m (suc n)) λ h. any-until p m n h λ k l less. none k l (omega arith)
+  where
+    go : Dec (m ≡ suc n) → (m ≤ n → anyBelow p m ≡ anyBelow p n) → anyBelow p m ≡ cond (p n) true (anyBelow p n)
+    go (yes e) rest = ap (anyBelow p) e
+    go (no other) rest = rw (none n (omega arith) (omega arith)) (rest (omega arith))
+
+-- equal tests
+pub any-same : (p q : ℕ → Bool) (n : ℕ) → ((k : ℕ) → k < n → p k ≡ q k) → anyBelow p n ≡ anyBelow q n
+unfolding anyBelow
+any-same p q zero same = refl
+any-same p q (suc n) same = ap₂ (λ (b c : Bool). cond b true c) (same n (omega arith)) (any-same p q n λ k h. same k (omega arith))

@@ -18,11 +18,10 @@ use Rattle.marks.specs.Marks.{onesOf}
 use Rattle.crop_rows.specs.UnpackLaws.{length-unpacked, unpacked-clean}
 use Rattle.crop.specs.Crop.{fileShape, width, height, image, wordsRefusal, fileRefusal}
 use Rattle.crop.specs.CropClauses.{WordsAccepted}
-use Rattle.crop.specs.CropLaws.{words-accepted, file-ready}
+use Rattle.crop.specs.CropLaws.{is-accepted, words-accepted, file-ready}
 use Rattle.records.specs.Records.{capacityOf, laidOut}
 use Rattle.detector_search.specs.Search.{Result}
 use Rattle.detector.specs.Detector.{Run, run, reportOf, steps, acceptedRun, wordsRun, FileRun, fileRun}
-use Rattle.detector.specs.DetectorLaws.{is-accepted}
 
 -- a run of an accepted image of this shape, whose bits are those of `words`, with these records and marks that fit lent, leaves `left`
 pub record Accepted (shape : Shape) (words records : List ℕ) (left : Run) : Type 0 where

@@ -1,9 +1,7 @@
 -- A run is one call of an entry that searches. What it reports and leaves in the lent buffers, for every input: docs/MANUAL.md, "The crop file" and
 -- "Answers". The search's definition is `searchAt`, the first true number is `wordsRefusal` or `fileRefusal`. Definitions only. Assumes nothing.
 use Prim.Native.Nat.{ℕ}
-use mathlib.Core.Bool.{cond}
 use mathlib.Core.List.{List}
-use lib.Dec.{eqb}
 use lib.ListN.{length}
 use Rattle.reads.specs.Reads.{Reads}
 use Rattle.reads.specs.Bits.{zeros}
@@ -11,7 +9,7 @@ use Rattle.reads.specs.Runs.{valueOf, marksOf}
 use Rattle.bit_matrix.specs.declared.Shape.{Shape}
 use Rattle.bit_matrix.specs.Shape.{shapeOf}
 use Rattle.marks.specs.Marks.{onesOf}
-use Rattle.crop.specs.Crop.{fileShape, image, wordsRefusal, fileRefusal}
+use Rattle.crop.specs.Crop.{fileShape, image, wordsRefusal, fileRefusal, refusedOr}
 use Rattle.records.specs.Records.{capacityOf, laidOut}
 use Rattle.detector_verdict.specs.declared.Counts.{Counts}
 use Rattle.detector_search.specs.Search.{Result, searchAt}
@@ -44,10 +42,6 @@ acceptedRun shape words records =
     let result = valueOf (steps shape (length records)) words in
     let marks = marksOf (steps shape (length records)) words (zeros (length words)) in
     run (reportOf (result .counts) (onesOf marks)) (laidOut (capacityOf (length records)) (result .records) records) marks
-
--- what an entry comes to: what a refusal with this number gives, or where the number is 0 what follows from the accepted run
-unfoldable pub refusedOr : {A : Type 0} → ℕ → (ℕ → A) → A → A
-refusedOr number refused accepted = cond (eqb number 0) accepted (refused number)
 
 -- an image in words: a refusal changes no buffer
 unfoldable pub wordsRun : List ℕ → ℕ → ℕ → List ℕ → List ℕ → Run

@@ -1,11 +1,10 @@
--- The entries' definitions by parts, of a refused and of an accepted image; and no run keeps more records than there is room for (`file-few`).
--- Assumes nothing.
+-- No run keeps more records than there is room for (`file-few`), and the length of what is lent from arrays of zeros. Assumes nothing.
 use Prim.Native.Nat.{ℕ, _≤_}
 use native.Mathlib.Omega.{arith}
 use mathlib.Core.Bool.{Bool, true, false}
 use mathlib.Core.List.{List}
 use mathlib.Core.Path.{_≡_, refl, sym, subst⁻¹}
-use borrow.Author.Tests.{eqb-true, eq-eqb, ne-eqb}
+use borrow.Author.Tests.{eqb-true}
 use lib.Dec.{eqb}
 use lib.ListN.{length, take, replicate, length-replicate}
 use lib.Seq.{length-take-le}
@@ -13,24 +12,12 @@ use Rattle.reads.specs.Bits.{bitAt}
 use Rattle.reads.specs.Runs.{valueOf}
 use Rattle.bit_matrix.specs.declared.Shape.{Shape}
 use Rattle.bit_matrix.specs.ShapeClauses.{Limits}
-use Rattle.crop_sizes.specs.ChainLaws.{chain-here, chain-next}
-use Rattle.crop.specs.Crop.{image, fileRefusal}
+use Rattle.crop.specs.Crop.{image, fileRefusal, refusedOr}
 use Rattle.crop.specs.CropLaws.{file-ready}
 use Rattle.records.specs.Records.{capacityOf}
 use Rattle.detector_verdict.specs.VerdictLaws.{counted-few}
 use Rattle.detector_search.specs.SearchLaws.{search-counted}
-use Rattle.detector.specs.Detector.{acceptedRun, refusedOr, fileRun}
-
--- ---- refused, or accepted
-
-module _ {A : Type 0} (refused : ℕ → A) (accepted : A) {number : ℕ} where
-  pub is-refused : (number ≡ 0 → ⊥) → refused number ≡ refusedOr number refused accepted
-  unfolding refusedOr
-  is-refused some = chain-next _ _ (ne-eqb _ 0 some) refl
-
-  pub is-accepted : number ≡ 0 → accepted ≡ refusedOr number refused accepted
-  unfolding refusedOr
-  is-accepted none = chain-here _ _ (eq-eqb _ 0 none) refl
+use Rattle.detector.specs.Detector.{acceptedRun, fileRun}
 
 -- ---- no run keeps more records than there is room for
 

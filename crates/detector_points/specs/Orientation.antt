@@ -7,13 +7,20 @@ use Rattle.detector_boundary.specs.declared.Boundary.{Boundary}
 abbrev pub point : ℕ → ℕ → PointU
 point x y = record { x = x; y = y }
 
--- `ix`, a cell's pixel column: odd rows lie half a cell to the right, and the cap comes before the left boundary is added
-abbrev pub pixelColumn : ℕ → ℕ → ℕ → ℕ → ℕ
-pixelColumn x y left width = left + min ((x * width + width / 2 + y % 2 * width / 2) / 30) (width - 1)
+-- a symbol's columns and rows of cells
+abbrev pub matrixWidth : ℕ
+matrixWidth = 30
 
--- `iy`, a cell's pixel row: the cap comes after the bottom boundary is added
+abbrev pub matrixHeight : ℕ
+matrixHeight = 33
+
+-- `ix`, a cell's pixel column: odd rows lie half a cell to the right, and the cap comes before the left column is added
+abbrev pub pixelColumn : ℕ → ℕ → ℕ → ℕ → ℕ
+pixelColumn x y left width = left + min ((x * width + width / 2 + y % 2 * width / 2) / matrixWidth) (width - 1)
+
+-- `iy`, a cell's pixel row: the cap comes after the first row is added
 abbrev pub pixelRow : ℕ → ℕ → ℕ → ℕ
-pixelRow y bottom height = min (bottom + (y * height + height / 2) / 33) (height - 1)
+pixelRow y first height = min (first + (y * height + height / 2) / matrixHeight) (height - 1)
 
 -- `adjust_point_alternate`
 unfoldable pub adjustedPoint : Boundary → PointU → PointU

@@ -10,12 +10,12 @@ ghost use Rattle.detector_points.specs.Orientation.{adjustedPoint, adjus
 ghost use Rattle.detector_points.specs.OrientationClauses.{isCell, areCells};
 
 // The symbol's columns and rows, of maxi_code_reader.rs.
-const MATRIX_WIDTH: u32 = 30;
+pub const MATRIX_WIDTH: u32 = 30;
 
-const MATRIX_HEIGHT: u32 = 33;
+pub const MATRIX_HEIGHT: u32 = 33;
 
 // Rust's `a.min(b)`.
-fn least(a: u32, b: u32) -> u32
+pub fn least(a: u32, b: u32) -> u32
     ensures { λ r. ⌜ r ≡ min a b ⌝ }
 {
     if a < b { a } else { b }

@@ -11,11 +11,11 @@ use lib.ListN.{length, take, replicate}
 use lib.Seq.{take-all}
 use Rattle.bit_matrix.specs.Shape.{rowWords}
 use Rattle.crop_sizes.specs.Sizes.{rowBytes, leastSide, misfit}
-use Rattle.crop.specs.Crop.{fileWords, width, height, noRoom, refusal, fileRefusal, fileKind}
+use Rattle.crop.specs.Crop.{fileWords, width, height, noRoom, refusal, fileRefusal, fileKind, refusedOr}
 use Rattle.crop.specs.CropClauses.{orSix}
 use Rattle.crop.specs.CropLaws.{file-accepted, refusal-six}
 use Rattle.crop.specs.PrefixLaws.{refusal-prefix}
-use Rattle.detector.specs.Detector.{run, FileRun, filed, refusedReport, refusedOr, fileRun}
+use Rattle.detector.specs.Detector.{run, FileRun, filed, refusedReport, fileRun}
 use Rattle.find.specs.Find.{lentWords, textOf, printed}
 
 -- the lent words fit, and 400 records are buffer enough: no answer is 6

@@ -21,7 +21,7 @@ digit-low true = omega arith
 digit-low false = omega arith
 
 -- a bit of a union
-or-bit : (w v j : ℕ) → bitOr w v / 2 ^ j % 2 ≡ bitOr (w / 2 ^ j % 2) (v / 2 ^ j % 2)
+pub or-bit : (w v j : ℕ) → bitOr w v / 2 ^ j % 2 ≡ bitOr (w / 2 ^ j % 2) (v / 2 ^ j % 2)
 or-bit w v j = ap (λ (n : ℕ). n % 2) (or-shr w v j) ∙ or-mod (w / 2 ^ j) (v / 2 ^ j) 1
 
 -- a bit with 1 is 1

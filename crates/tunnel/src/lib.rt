@@ -4,6 +4,8 @@ ghost use lib.ListN.{length};
 ghost use Rattle.crop.specs.Crop.{refusal, Unpacks};
 ghost use Rattle.text.specs.Text.{Puts};
 ghost use Rattle.text_run.specs.RunText.{fittingText};
+ghost use Rattle.detector_cells.specs.Cells.{cellsRun};
+ghost use Rattle.cells.specs.Entries.{wordsCells, filedCells, fileCells};
 ghost use Rattle.detector.specs.Detector.{run, wordsRun, filed, fileRun};
 use detector::Report;
 
@@ -50,6 +52,28 @@ pub extern "C" fn maxicode_search_file(
         ≡ fileRun (now (file .entry)) (now (words .entry)) (now (records .entry)) (now (marks .entry)) ⌝ }
 {
     detector::search_file(file, words, records, marks)
+}
+
+// The cells of an image in words: 33 words, column c of a row at bit c. They are written only when the answer is 0.
+#[no_mangle]
+pub extern "C" fn maxicode_cells_words(
+    words: &[u64],
+    width: u32,
+    height: u32,
+    cells: &mut [u32],
+) -> u32
+    ensures { λ r. ⌜ cellsRun r (now (cells .exit)) ≡ wordsCells (now (words .entry)) width height (now (cells .entry)) ⌝ }
+{
+    cells::cells_words(words, width, height, cells)
+}
+
+// The cells of a crop file, with words to unpack it into, which are written with answer 10 too.
+#[no_mangle]
+pub extern "C" fn maxicode_cells_file(file: &[u8], words: &mut [u64], cells: &mut [u32]) -> u32
+    ensures { λ r. ⌜ filedCells (now (words .exit)) (cellsRun r (now (cells .exit)))
+        ≡ fileCells (now (file .entry)) (now (words .entry)) (now (cells .entry)) ⌝ }
+{
+    cells::cells_file(file, words, cells)
 }
 
 // The lines of a run as text in a lent buffer, and how long they are. A buffer of less than 80 + 200 * kept bytes, or fewer records lent than kept: nothing

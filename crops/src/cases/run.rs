@@ -16,6 +16,10 @@ pub struct Entries<'a> {
     pub search_file: fn(&[u8], &mut [u64], &mut [u32], &mut [u64]) -> Report,
     /// Words, width, height, records, marks.
     pub search_words: fn(&[u64], u32, u32, &mut [u32], &mut [u64]) -> Report,
+    /// A file, words to unpack into, cells.
+    pub cells_file: fn(&[u8], &mut [u64], &mut [u32]) -> u32,
+    /// Words, width, height, cells.
+    pub cells_words: fn(&[u64], u32, u32, &mut [u32]) -> u32,
     /// None where the program is not there.
     pub program: Option<Program<'a>>,
 }
@@ -38,8 +42,8 @@ pub fn run(call: &Call, stock: &Stock, entries: &Entries) -> Result<Option<Seen>
             seen.buffer(Key::Words, words.len(), hash_u64(&words))
         }
         Call::Search(search) if plain(search) => searched(search, stock, entries)?,
+        Call::Cells { image, cells } => cells_read(image, *cells, stock, entries)?,
         Call::Search(_)
-        | Call::Cells { .. }
         | Call::Fill { .. }
         | Call::Update { .. }
         | Call::Add { .. }
@@ -119,4 +123,28 @@ fn searched(search: &Search, stock: &Stock, entries: &Entries) -> Result<Seen, S
         .with(Key::Marked, report.marked)
         .buffer(Key::Marks, marks.len(), hash_u64(&marks))
         .buffer(Key::Records, records.len(), hash_u32(&records)))
+}
+
+fn cells_read(
+    image: &Image,
+    cells: usize,
+    stock: &Stock,
+    entries: &Entries,
+) -> Result<Seen, String> {
+    let mut cells = lent_u32(cells);
+    let mut seen = Seen::default();
+    let answer = match image {
+        Image::File { file, unpack } => {
+            let (file, mut words) = (given(file, stock)?, lent_u64(*unpack));
+            let answer = (entries.cells_file)(&file, &mut words, &mut cells);
+            seen = seen.buffer(Key::Words, words.len(), hash_u64(&words));
+            answer
+        }
+        Image::Words(words) => {
+            let (words, width, height) = given_words(words, stock)?;
+            (entries.cells_words)(&words, width, height, &mut cells)
+        }
+    };
+    let seen = seen.with(Key::Answer, answer);
+    Ok(seen.buffer(Key::Cells, cells.len(), hash_u32(&cells)))
 }

@@ -61,6 +61,8 @@ fn run(args: &[OsString]) -> Result<bool, Problem> {
         unpack: bullseye::unpack,
         search_file: bullseye::search_file,
         search_words: bullseye::search_words,
+        cells_file: bullseye::cells_file,
+        cells_words: bullseye::cells_words,
         program: printed.as_ref().map(|run| run as _),
     };
     match arguments.write {

@@ -3,7 +3,7 @@ use super::{Command, files_help};
 use crate::{
     arguments::{Arguments, MANY},
     files::{self, Said},
-    inputs::{Input, Inputs},
+    inputs::Inputs,
     output::Problem,
     run,
 };
@@ -40,17 +40,13 @@ Example: bullseye find examples/parcel.crop
 
 fn run(args: &[OsString]) -> Result<bool, Problem> {
     let inputs = Inputs::of(&Arguments::of(args, &MANY)?)?;
-    let named = !inputs.single;
-    files::say_each(&inputs, |input, file| lines(input, file, named))
+    files::say_each(&inputs, |input, file| lines(inputs.heading(input), file))
 }
 
-/// The lines of one file, after its name when there are several.
-fn lines(input: &Input, file: &[u8], named: bool) -> Result<Said, Unknown> {
+/// The lines of one file, after its heading.
+fn lines(heading: Vec<u8>, file: &[u8]) -> Result<Said, Unknown> {
     let run = run::search(file)?;
-    let mut text = match named {
-        true => [input.path.as_encoded_bytes(), b":\n"].concat(),
-        false => Vec::new(),
-    };
+    let mut text = heading;
     text.extend(bullseye::lines(run.seen.report, &run.buffer));
     Ok(Said {
         text,

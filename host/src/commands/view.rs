@@ -6,7 +6,7 @@ use crate::{
     output::{Problem, deliver, of_file},
     redacting::{black_pixels, redaction},
     run::Run,
-    svg::{Bounds, escaped, runs},
+    svg::{Bounds, FONT, escaped, runs},
 };
 use bullseye::redact::Extent;
 use crops::{Outcome, Record};
@@ -40,10 +40,6 @@ Example: bullseye view examples/parcel.crop -o parcel.svg
 
 /// About so many units of the screen for the longer side.
 const SCREEN: u32 = 900;
-
-/// Of the text, in units of the screen.
-const FONT: f64 = 13.0;
-const LINE: f64 = 18.0;
 
 /// Degrees from one rank's place at its circle to the next one's, so that ranks of near circles stand side by side.
 const RANK_STEP: f64 = 30.0;
@@ -97,12 +93,7 @@ fn picture(name: &str, Searched { image, run }: &Searched, left: Option<&Image>)
         legend.push((colour(record.outcome), label));
     }
     let (width, height) = (image.width, image.height);
-    let top = bounds.bottom + LINE / zoom;
-    let text = lines(&legend, bounds.left, top, zoom);
-    bounds.bottom = top + LINE / zoom * legend.len() as f64;
-    let longest = legend.iter().map(|(_, line)| text_width(line));
-    let longest = longest.fold(0.0, f64::max) * FONT / zoom;
-    bounds.right = bounds.right.max(bounds.left + longest);
+    let text = bounds.legend(&legend, zoom);
     let start = bounds.start(zoom, FONT / zoom);
     format!(
         "{start}<title>{}</title>\n{ARROW}\
@@ -195,12 +186,6 @@ fn caption(name: &str, image: &Image, run: &Run, words: &str) -> Vec<(&'static s
     [size, answer, counts].map(|line| ("#000", line)).into()
 }
 
-/// At least the width of a line of text, in units of its font's size; letters of other scripts can be as wide as high.
-fn text_width(line: &str) -> f64 {
-    let width = |letter: char| if letter.is_ascii() { 0.62 } else { 1.1 };
-    line.chars().map(width).sum()
-}
-
 /// A record's circle, box, turn and rank; its points are in the middle of their pixels.
 fn drawn(rank: usize, record: &Record, label: &str, zoom: f64) -> String {
     let [left_bottom, left_top, right_bottom, right_top] = record.corners;
@@ -271,17 +256,4 @@ fn include(bounds: &mut Bounds, record: &Record, (rank_x, rank_y): (f64, f64), f
         let (x, y) = tip(record);
         bounds.reach(x, y);
     }
-}
-
-/// The text below the picture.
-fn lines(legend: &[(&str, String)], left: f64, top: f64, zoom: f64) -> String {
-    let mut text = String::new();
-    for (place, (colour, line)) in legend.iter().enumerate() {
-        let y = top + LINE / zoom * place as f64;
-        text += &format!(
-            "<text x=\"{left:.2}\" y=\"{y:.2}\" fill=\"{colour}\">{}</text>\n",
-            escaped(line)
-        );
-    }
-    text
 }

@@ -1,6 +1,6 @@
 /* Makes calls of the library and writes what is seen after them, byte for byte, to standard output: first what the header's own
- * functions say of answers, then calls with nothing lent, then for each line `PATH WIDTH HEIGHT WORDS RECORDS MARKS` of standard input the four functions on that
- * file, with buffers of these lengths. Lines that hold no such call end it with status 1. */
+ * functions say of answers, then calls with nothing lent, then for each line `PATH WIDTH HEIGHT WORDS RECORDS MARKS CELLS` of standard
+ * input the six functions on that file, with buffers of these lengths. Lines that hold no such call end it with status 1. */
 #include <maxicode.h>
 #include <stdio.h>
 #include <string.h>
@@ -14,10 +14,10 @@ typedef char report_is_four_words[sizeof(struct maxicode_report) == 16 ? 1 : -1]
 
 static uint8_t file[2 * MOST];
 static uint64_t words[MOST], marks[MOST];
-static uint32_t records[MOST];
+static uint32_t records[MOST], cells[MOST];
 
 struct lengths {
-    size_t file, words, records, marks;
+    size_t file, words, records, marks, cells;
 };
 
 static void put(const void *bytes, size_t count) {
@@ -35,9 +35,16 @@ static void put_search(struct maxicode_report report, const struct lengths *lent
     put(marks, lent->marks * sizeof *marks);
 }
 
+static void put_cells(uint32_t answer, const struct lengths *lent) {
+    put_number(answer);
+    put(words, lent->words * sizeof *words);
+    put(cells, lent->cells * sizeof *cells);
+}
+
 static void fill(void) {
     memset(records, PATTERN, sizeof records);
     memset(marks, PATTERN, sizeof marks);
+    memset(cells, PATTERN, sizeof cells);
 }
 
 static void calls(const struct lengths *lent, uint32_t width, uint32_t height) {
@@ -47,9 +54,12 @@ static void calls(const struct lengths *lent, uint32_t width, uint32_t height) {
     put(words, lent->words * sizeof *words);
     fill();
     put_search(maxicode_search_words(words, lent->words, width, height, records, lent->records, marks, lent->marks), lent);
+    put_cells(maxicode_cells_words(words, lent->words, width, height, cells, lent->cells), lent);
     memset(words, PATTERN, sizeof words);
     fill();
     put_search(maxicode_search_file(file, lent->file, words, lent->words, records, lent->records, marks, lent->marks), lent);
+    memset(words, PATTERN, sizeof words);
+    put_cells(maxicode_cells_file(file, lent->file, words, lent->words, cells, lent->cells), lent);
     if (lent->file >= MAXICODE_HEADER_BYTES) {
         put_number(maxicode_file_width(file));
         put_number(maxicode_file_height(file));
@@ -65,21 +75,24 @@ static void nothing_lent(void) {
     put_number(maxicode_unpack(NULL, 0, NULL, 0));
     put(&words, sizeof words);
     put(&file, sizeof file);
+    put_number(maxicode_cells_words(NULL, 0, 33, 33, NULL, 0));
+    put_number(maxicode_cells_file(NULL, 0, NULL, 0, NULL, 0));
 }
 
 int main(void) {
     char path[4096];
-    unsigned width, height, lent_words, lent_records, lent_marks;
+    unsigned width, height, lent_words, lent_records, lent_marks, lent_cells;
     int read;
 
     for (uint32_t answer = 0; answer < 32; answer++)
         put_number((uint32_t)maxicode_refused(answer));
     nothing_lent();
-    while ((read = scanf("%4095s %u %u %u %u %u", path, &width, &height, &lent_words, &lent_records, &lent_marks)) == 6) {
+    while ((read = scanf("%4095s %u %u %u %u %u %u", path, &width, &height, &lent_words, &lent_records, &lent_marks,
+                         &lent_cells)) == 7) {
         FILE *stream = fopen(path, "rb");
-        if (stream == NULL || lent_words > MOST || lent_records > MOST || lent_marks > MOST)
+        if (stream == NULL || lent_words > MOST || lent_records > MOST || lent_marks > MOST || lent_cells > MOST)
             return 1;
-        struct lengths lent = {fread(file, 1, sizeof file, stream), lent_words, lent_records, lent_marks};
+        struct lengths lent = {fread(file, 1, sizeof file, stream), lent_words, lent_records, lent_marks, lent_cells};
         fclose(stream);
         calls(&lent, width, height);
     }

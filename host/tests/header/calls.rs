@@ -10,11 +10,11 @@ use std::{
 /// Every byte of a lent buffer before a call.
 const PATTERN: u8 = 0xa5;
 
-/// A call: a file, the dimensions that its words are searched with, and the lengths of words, records and marks.
+/// A call: a file, the dimensions that its words are handed over with, and the lengths of words, records, marks and cells.
 struct Call {
     file: Vec<u8>,
     sides: (u32, u32),
-    lengths: [usize; 3],
+    lengths: [usize; 4],
 }
 
 /// Each file with buffers that fit, and with one of them too short or too long.
@@ -22,8 +22,9 @@ fn calls() -> Vec<Call> {
     let parcel = fs::read(repository().join("examples/parcel.crop")).expect("the example");
     let generated = (0..40).map(|seed| oracle::generate::crop(seed).file());
     let damaged = (0..60).map(|seed| oracle::generate::bad(seed).file);
+    let white = crops::pack(&[0; 33], 33, 33);
     let mut calls = Vec::new();
-    for (turn, file) in [parcel]
+    for (turn, file) in [parcel, white]
         .into_iter()
         .chain(generated)
         .chain(damaged)
@@ -33,11 +34,11 @@ fn calls() -> Vec<Call> {
         let words = crops::words_of(&file).min(20_000);
         let records = [40, 80, 4000, 16_000, 41_000][turn % 5];
         let unfit = [
-            [words + 1, records, words],
-            [words, 39, words],
-            [words, records, words.saturating_sub(1)],
+            [words + 1, records, words, 33],
+            [words, 39, words, 32],
+            [words, records, words.saturating_sub(1), 34],
         ];
-        for lengths in [[words, records, words], unfit[turn % 3]] {
+        for lengths in [[words, records, words, 33], unfit[turn % 3]] {
             let sides = (width, height);
             let file = file.clone();
             calls.push(Call {
@@ -67,23 +68,39 @@ fn seen(report: crops::Report, words: &[u64], records: &[u32], marks: &[u64]) ->
     .concat()
 }
 
+/// What is seen after the cells were read.
+fn seen_cells(answer: u32, words: &[u64], cells: &[u32]) -> Vec<u8> {
+    [
+        bytes(&[answer], u32::to_ne_bytes),
+        bytes(words, u64::to_ne_bytes),
+        bytes(cells, u32::to_ne_bytes),
+    ]
+    .concat()
+}
+
 impl Call {
     /// What the Rust library gives, in the order in which calls.c writes it.
     fn by_rust(&self) -> Vec<u8> {
-        let [words, records, marks] = self.lengths;
+        let [words, records, marks, cells] = self.lengths;
         let lent = |length| vec![u64::from_ne_bytes([PATTERN; 8]); length];
-        let lent_records = || vec![u32::from_ne_bytes([PATTERN; 4]); records];
+        let lent_small = |length| vec![u32::from_ne_bytes([PATTERN; 4]); length];
         let mut image = lent(words);
         let mut all = bullseye::check(&self.file).to_ne_bytes().to_vec();
         all.extend(bullseye::unpack(&self.file, &mut image).to_ne_bytes());
         all.extend(bytes(&image, u64::to_ne_bytes));
-        let (mut found, mut read) = (lent_records(), lent(marks));
+        let (mut found, mut read) = (lent_small(records), lent(marks));
         let (width, height) = self.sides;
         let report = bullseye::search_words(&image, width, height, &mut found, &mut read);
         all.extend(seen(report, &image, &found, &read));
-        let (mut image, mut found, mut read) = (lent(words), lent_records(), lent(marks));
+        let mut taken = lent_small(cells);
+        let answer = bullseye::cells_words(&image, width, height, &mut taken);
+        all.extend(seen_cells(answer, &image, &taken));
+        let (mut image, mut found, mut read) = (lent(words), lent_small(records), lent(marks));
         let report = bullseye::search_file(&self.file, &mut image, &mut found, &mut read);
         all.extend(seen(report, &image, &found, &read));
+        let (mut image, mut taken) = (lent(words), lent_small(cells));
+        let answer = bullseye::cells_file(&self.file, &mut image, &mut taken);
+        all.extend(seen_cells(answer, &image, &taken));
         all.extend(self.sizes());
         all
     }
@@ -112,10 +129,15 @@ fn nothing_lent() -> Vec<u8> {
     let words = bullseye::search_words(&[], 33, 33, &mut [], &mut []);
     let file = bullseye::search_file(&[], &mut [], &mut [], &mut []);
     let numbers = [bullseye::check(&[]), bullseye::unpack(&[], &mut [])];
+    let cells = [
+        bullseye::cells_words(&[], 33, 33, &mut []),
+        bullseye::cells_file(&[], &mut [], &mut []),
+    ];
     [
         bytes(&numbers, u32::to_ne_bytes),
         seen(words, &[], &[], &[]),
         seen(file, &[], &[], &[]),
+        bytes(&cells, u32::to_ne_bytes),
     ]
     .concat()
 }
@@ -147,9 +169,9 @@ fn c_and_cpp_see_what_rust_sees() {
     for (turn, call) in calls().iter().enumerate() {
         let path = folder.0.join(format!("{turn}.crop"));
         fs::write(&path, &call.file).expect("a file is written");
-        let ((width, height), [words, records, marks]) = (call.sides, call.lengths);
+        let ((width, height), [words, records, marks, cells]) = (call.sides, call.lengths);
         lines += &format!(
-            "{} {width} {height} {words} {records} {marks}\n",
+            "{} {width} {height} {words} {records} {marks} {cells}\n",
             path.display()
         );
         expected.extend(call.by_rust());

@@ -41,10 +41,13 @@ fn answers_are_those_of_the_table() {
         .into_values()
         .map(|answer| (answer.number, answer.comment))
         .collect();
+    let blank = crops::cells_meaning(crops::BLANK).expect("an answer of cells");
     let table = crops::ANSWERS.iter();
-    let known = table.map(|answer| (answer.number as usize, answer.meaning.to_string()));
+    let known = table.map(|answer| (answer.number, answer.meaning));
+    let known = known.chain([(crops::BLANK, blank)]);
+    let known = known.map(|(number, meaning)| (number as usize, meaning.to_string()));
     assert_eq!(stated, known.collect());
-    assert_eq!(group("ANSWER_").len(), crops::ANSWERS.len());
+    assert_eq!(group("ANSWER_").len(), stated.len());
 }
 
 #[test]
@@ -82,6 +85,8 @@ fn sizes_are_those_of_the_rust_side() {
         ("REPORT_BYTES", crops::REPORT_BYTES),
         ("RECORD_BYTES", crops::RECORD_BYTES),
         ("CLASSES", crops::CLASSES as usize),
+        ("CELL_ROWS", crops::CELL_ROWS),
+        ("CELL_COLUMNS", crops::CELL_COLUMNS),
         ("KIND", usize::from(crops::pack(&[], 33, 33)[0] >> 4)),
     ]);
     let groups = ["ANSWER_", "FIELD_", "OUTCOME_"];

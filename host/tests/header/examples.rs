@@ -1,6 +1,10 @@
 //! The complete examples of examples/, built and run.
 use super::{Folder, built, repository};
-use std::{path::Path, process::Command};
+use std::{
+    fs::{self, File},
+    path::Path,
+    process::Command,
+};
 
 /// What both print of the crop that ships.
 const PRINTED: &str = "\
@@ -9,12 +13,17 @@ centre 92, 92 radius 23 turned by 144 degrees class 2
 ";
 
 /// The exit status of a program, and what it prints on standard output.
-fn run(program: &Path, files: &[&str]) -> (Option<i32>, String) {
-    let files = files.iter().map(|file| repository().join(file));
-    let output = Command::new(program).args(files).output();
-    let output = output.unwrap_or_else(|error| panic!("{}: {error}", program.display()));
+fn ended(program: &mut Command) -> (Option<i32>, String) {
+    let output = program.output();
+    let output = output.unwrap_or_else(|error| panic!("{program:?}: {error}"));
     let text = String::from_utf8_lossy(&output.stdout).into_owned();
     (output.status.code(), text)
+}
+
+/// The same of a program on files of the repository.
+fn run(program: &Path, files: &[&str]) -> (Option<i32>, String) {
+    let files = files.iter().map(|file| repository().join(file));
+    ended(Command::new(program).args(files))
 }
 
 /// Finds what is there, refuses what is no crop, and takes one file.
@@ -33,6 +42,32 @@ fn the_c_example_runs() {
     let program = folder.0.join("find-c");
     if built(&["cc", "-std=c99"], "examples/c/find.c", &program) {
         does_its_work(&program);
+    }
+}
+
+/// Prints the words that the library gives, and refuses what is no crop or has no black pixel.
+#[test]
+fn the_c_example_of_cells_runs() {
+    let folder = Folder::new("example-cells");
+    let program = folder.0.join("cells-c");
+    if !built(&["cc", "-std=c99"], "examples/c/cells.c", &program) {
+        return;
+    }
+    let lone = fs::read(repository().join("examples/lone.crop")).expect("the example");
+    let mut cells = [0; crops::CELL_ROWS];
+    let mut words = vec![0; crops::words_of(&lone)];
+    assert_eq!(bullseye::cells_file(&lone, &mut words, &mut cells), 0);
+    let lines: String = cells.iter().map(|row| format!("{row:08x}\n")).collect();
+    let white = crops::pack(&[0; 33], 33, 33);
+    for (file, expected) in [
+        (&lone, (Some(0), lines)),
+        (&white, (Some(1), String::new())),
+        (&b"no crop".to_vec(), (Some(1), String::new())),
+    ] {
+        let path = folder.0.join("crop");
+        fs::write(&path, file).expect("a file is written");
+        let input = File::open(&path).expect("it is there");
+        assert_eq!(ended(Command::new(&program).stdin(input)), expected);
     }
 }
 

@@ -74,3 +74,27 @@ fn candidates_are_held_up_to_the_most() {
     assert_eq!(report.answer, named("TOO_MANY"));
     assert_eq!(report.found as usize, most + 1);
 }
+
+/// Cells are as many as the sizes say, and the answer of a white crop has its name.
+#[test]
+fn cells_are_of_their_size() {
+    let header = header();
+    let (rows, columns) = (header["CELL_ROWS"].number, header["CELL_COLUMNS"].number);
+    let black = vec![(1 << 33) - 1; 33];
+    for (length, answer) in [
+        (rows, 0),
+        (rows - 1, named("BUFFER")),
+        (rows + 1, named("BUFFER")),
+    ] {
+        let mut cells = vec![7; length];
+        assert_eq!(bullseye::cells_words(&black, 33, 33, &mut cells), answer);
+        let word = if answer == 0 { (1 << columns) - 1 } else { 7 };
+        assert_eq!(cells, vec![word; length]);
+    }
+    let (mut words, mut cells) = (vec![7; 33], vec![7; rows]);
+    let answer = bullseye::cells_file(&white(33, 33), &mut words, &mut cells);
+    assert_eq!(
+        (answer, words, cells),
+        (named("NO_BLACK"), vec![0; 33], vec![7; rows])
+    );
+}

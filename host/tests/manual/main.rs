@@ -22,6 +22,8 @@ const OPTIONAL: &[&str] = &[
     "pamthreshold",
     "pamtopnm",
     "parallel",
+    "pnmcrop",
+    "pnmpad",
 ];
 
 /// One line, which is shown though the test passes.

@@ -30,6 +30,8 @@ fn answers_fields_and_outcomes_are_those_of_the_tables() {
         };
         has_row(&[&answer.number.to_string(), answer.meaning, ending]);
     }
+    let blank = crops::cells_meaning(crops::BLANK).expect("an answer of cells");
+    has_row(&[&crops::BLANK.to_string(), blank, "accepted"]);
     for field in crops::FIELDS {
         let places = match field.words {
             1 => field.place.to_string(),
@@ -66,6 +68,8 @@ fn sizes_are_those_of_the_tables() {
         number(crops::RECORD_WORDS, "words"),
         number(crops::RECORDS, "records"),
         number(crops::MOST_CANDIDATES, "records"),
+        number(crops::CELL_ROWS, "rows"),
+        number(crops::CELL_COLUMNS, "cells"),
     ];
     for size in sizes {
         assert!(text.contains(&size), "docs/MANUAL.md does not say '{size}'");
@@ -100,6 +104,7 @@ fn examples_stand_in_the_manual() {
     let manual = document("docs/MANUAL.md");
     for name in [
         "examples/c/find.c",
+        "examples/c/cells.c",
         "examples/rust/src/main.rs",
         "examples/rust/Cargo.toml",
     ] {

@@ -7,13 +7,14 @@ use std::{
     os::unix::{ffi::OsStringExt, fs::PermissionsExt},
 };
 
-const COMMANDS: [&str; 10] = [
-    "check", "find", "summary", "table", "compare", "view", "blank", "redact", "pbm", "crop",
+const COMMANDS: [&str; 11] = [
+    "check", "find", "summary", "table", "compare", "view", "cells", "blank", "redact", "pbm",
+    "crop",
 ];
 
 /// Those that take one file or more, as their last argument.
-const OF_FILES: [&str; 9] = [
-    "check", "find", "summary", "table", "view", "blank", "redact", "pbm", "crop",
+const OF_FILES: [&str; 10] = [
+    "check", "find", "summary", "table", "view", "cells", "blank", "redact", "pbm", "crop",
 ];
 
 #[test]
@@ -37,7 +38,7 @@ fn help() {
 #[test]
 fn bad_usage() {
     let folder = Folder::new("usage");
-    let wrong: [&[&str]; 9] = [
+    let wrong: [&[&str]; 13] = [
         &[],
         &["serch", "file"],
         &["check"],
@@ -47,6 +48,10 @@ fn bad_usage() {
         &["blank", "one", "-o"],
         &["pbm", "one", "-o", "a", "-o", "b"],
         &["crop", "--plain", "one"],
+        &["cells", "--hex", "--svg", "one"],
+        &["cells", "--svg", "one", "two"],
+        &["cells", "--svg", "--list"],
+        &["cells", "one", "-o", "out"],
     ];
     for args in wrong {
         let ran = folder.bullseye(args);
@@ -74,7 +79,7 @@ fn files_that_are_none() {
     folder.write("empty", &[]);
     for name in OF_FILES {
         let inner = match name {
-            "check" | "find" | "summary" | "table" => "a folder without files",
+            "check" | "find" | "summary" | "table" | "cells" => "a folder without files",
             "blank" | "redact" => "",
             _ => "a folder, not a file",
         };
@@ -175,7 +180,9 @@ fn closed_standard_error() {
 fn outputs_that_cannot_be_written() {
     let folder = Folder::new("full");
     folder.write("parcel", &parcel());
-    for name in ["check", "find", "summary", "table", "view", "blank", "pbm"] {
+    for name in [
+        "check", "find", "summary", "table", "view", "cells", "blank", "pbm",
+    ] {
         let full = File::options().write(true).open("/dev/full");
         let full = full.expect("the system has /dev/full");
         let output = folder.command(&[name, "parcel"]).stdout(full).output();

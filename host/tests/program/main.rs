@@ -11,6 +11,7 @@ use std::{
 mod blank;
 mod browser;
 mod cases;
+mod cells;
 mod certify;
 mod check;
 mod compare;
@@ -100,10 +101,20 @@ fn white() -> Vec<u8> {
     crop
 }
 
-/// The crop that ships with the repository.
+/// A crop that ships with the repository.
+fn example(name: &str) -> Vec<u8> {
+    let examples = Path::new(env!("CARGO_MANIFEST_DIR")).join("../examples");
+    fs::read(examples.join(name)).expect("the example is there")
+}
+
+/// A turned symbol.
 fn parcel() -> Vec<u8> {
-    let path = Path::new(env!("CARGO_MANIFEST_DIR")).join("../examples/parcel.crop");
-    fs::read(path).expect("the example is there")
+    example("parcel.crop")
+}
+
+/// A symbol that fills its crop.
+fn lone() -> Vec<u8> {
+    example("lone.crop")
 }
 
 /// A crop full of small bull's-eyes, side by side: more candidates than 400 records hold.
@@ -123,8 +134,7 @@ fn crowded() -> Vec<u8> {
 
 /// Four small bull's-eyes, crosses, about a white middle: each is too far from the mean centre.
 fn set_aside() -> Vec<u8> {
-    let path = Path::new(env!("CARGO_MANIFEST_DIR")).join("../examples/set-aside.crop");
-    fs::read(path).expect("the example is there")
+    example("set-aside.crop")
 }
 
 /// A file of a generated image.

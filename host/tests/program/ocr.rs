@@ -38,8 +38,7 @@ fn read_text(folder: &Folder, name: &str) -> Option<String> {
 #[test]
 fn an_address_is_read_in_a_blanked_crop_and_not_in_a_redacted_one() {
     let folder = Folder::new("ocr");
-    let path = Path::new(env!("CARGO_MANIFEST_DIR")).join("../examples/address.crop");
-    folder.write("crop", &fs::read(path).expect("the example is there"));
+    folder.write("crop", &example("address.crop"));
     let Some(text) = read_text(&folder, "crop") else {
         println!("skipped: tesseract (Debian's tesseract-ocr) is not installed");
         return;

@@ -2,7 +2,7 @@
 use super::*;
 
 /// The value of an attribute in an element.
-fn value<'a>(element: &'a str, name: &str) -> &'a str {
+pub fn value<'a>(element: &'a str, name: &str) -> &'a str {
     let start = format!(" {name}=\"");
     let after = element
         .split_once(&start)
@@ -11,7 +11,7 @@ fn value<'a>(element: &'a str, name: &str) -> &'a str {
 }
 
 /// All elements with this name and start.
-fn elements<'a>(svg: &'a str, start: &str) -> Vec<&'a str> {
+pub fn elements<'a>(svg: &'a str, start: &str) -> Vec<&'a str> {
     let parts = svg.split('<').filter(|part| part.starts_with(start));
     parts.collect()
 }
@@ -43,7 +43,7 @@ fn covered(path: &str, width: usize, height: usize) -> Vec<bool> {
 }
 
 /// Every element that begins ends, in order.
-fn well_formed(svg: &str) {
+pub fn well_formed(svg: &str) {
     let mut open = Vec::new();
     for part in svg.split('<').skip(1) {
         let (tag, text) = part.split_once('>').expect("a tag ends");
@@ -113,17 +113,20 @@ fn outcome(record: &[u32]) -> String {
     }
 }
 
-/// Everything that is drawn is within the picture.
-fn within(svg: &str) {
+/// That a point is within the picture.
+pub fn inside(svg: &str, x: f64, y: f64) {
     let view = value(elements(svg, "svg")[0], "viewBox");
     let view: Vec<f64> = view.split(' ').filter_map(|n| n.parse().ok()).collect();
     let [left, top, width, height] = view[..] else {
         panic!("{view:?}");
     };
-    let inside = |x: f64, y: f64| {
-        assert!(left < x && x < left + width, "{x} in {view:?}");
-        assert!(top < y && y < top + height, "{y} in {view:?}");
-    };
+    assert!(left < x && x < left + width, "{x} in {view:?}");
+    assert!(top < y && y < top + height, "{y} in {view:?}");
+}
+
+/// Everything that is drawn is within the picture.
+fn within(svg: &str) {
+    let inside = |x: f64, y: f64| inside(svg, x, y);
     for line in elements(svg, "line ") {
         let ends =
             ["x1", "y1", "x2", "y2"].map(|name| value(line, name).parse().expect("a number"));

@@ -16,22 +16,30 @@ fn main() {
 
 #[cfg(source)]
 mod both {
-    use oracle::generate::{self, Coverage, Crop};
+    use oracle::generate::{self, CellCoverage, Coverage, Crop, Random};
+    use oracle::harness::steps::{Image, enclosing_rectangle};
+    use oracle::second::Rectangle;
     use oracle::vectors::Lent;
     use oracle::{Report, harness, second};
 
-    /// Every crop once, and a damaged or random file after each; the first difference ends the run.
+    /// Every crop once, searched and read as cells, one for cells, and a damaged or random file after each; the first difference
+    /// ends the run.
     pub fn run(seed: u64, count: u64) {
         let mut coverage = Coverage::default();
+        let mut cells = CellCoverage::default();
         for at in seed..seed + count {
             let crop = generate::crop(at);
             let (report, records) = whole_run(at, &crop);
             coverage.add(report.answer, report.found, report.kept, &records);
             damaged_file(at, &mut coverage);
+            for crop in [crop, generate::filling(at)] {
+                whole_cells(at, &crop, &mut cells);
+            }
+            damaged_cells(at, &mut cells);
         }
         println!("seeds {seed} to {}: no difference", seed + count - 1);
-        print!("{}", coverage.table());
-        for row in coverage.missing() {
+        print!("{}{}", coverage.table(), cells.table());
+        for row in coverage.missing().iter().chain(&cells.missing()) {
             println!("not hit: {row}");
         }
     }
@@ -85,5 +93,118 @@ mod both {
         );
         assert!(a == b, "seed {seed}: buffers after a damaged file");
         coverage.add(report.answer, report.found, report.kept, &a.records);
+    }
+
+    /// Parts the numbers of the lent buffers from those of the crop.
+    const CELLS_SALT: u64 = 0x63_656c_6c73;
+
+    /// Words to unpack into and cells, lent with any first content.
+    #[derive(Clone, PartialEq)]
+    struct LentCells {
+        words: Vec<u64>,
+        cells: Vec<u32>,
+    }
+
+    impl LentCells {
+        fn new(random: &mut Random, words: usize, cells: usize) -> LentCells {
+            LentCells {
+                words: (0..words).map(|_| random.next()).collect(),
+                cells: (0..cells).map(|_| random.next() as u32).collect(),
+            }
+        }
+
+        /// Lengths that are mostly right, of an image of n words.
+        fn of_any_length(random: &mut Random, n: usize) -> LentCells {
+            let words = random.pick(&[n, n, n, n.saturating_sub(1), n + 1, 0]);
+            let cells = random.pick(&[33, 33, 33, 33, 0, 1, 32, 34, 40, 66]);
+            LentCells::new(random, words, cells)
+        }
+    }
+
+    /// One crop as a file and as words, in buffers that fit and then as it may be refused: answers, rectangles, words and cells of
+    /// both readings.
+    fn whole_cells(seed: u64, crop: &Crop, coverage: &mut CellCoverage) {
+        let mut random = Random::new(seed ^ CELLS_SALT);
+        let (file, n) = (crop.file(), crop.words.len());
+        let image = Image {
+            words: &crop.words,
+            width: crop.width,
+            height: crop.height,
+        };
+        let lent = LentCells::new(&mut random, n, crops::CELL_ROWS);
+        let (answer, after) = file_cells(seed, &file, &lent);
+        let from_words = words_cells(seed, image, &lent.cells);
+        assert_eq!(
+            from_words,
+            (answer, after.cells),
+            "seed {seed}: cells of words against file"
+        );
+        assert!(
+            after.words == crop.words,
+            "seed {seed}: words unpacked for cells"
+        );
+        coverage.add(answer);
+        add_rectangle(seed, image, coverage);
+        let lent = LentCells::of_any_length(&mut random, n);
+        coverage.add(file_cells(seed, &file, &lent).0);
+        let width = random.pick(&[0, crop.width - 1, crop.width, crop.width + 1, !0]);
+        let other = Image { width, ..image };
+        coverage.add(words_cells(seed, other, &lent.cells).0);
+    }
+
+    /// Both readings have the same rectangle, which is counted.
+    fn add_rectangle(seed: u64, image: Image, coverage: &mut CellCoverage) {
+        let (width, height) = (image.width, image.height);
+        let rectangle = second::enclosing_rectangle(image.words, width, height);
+        let sides = |rectangle: Rectangle| {
+            [
+                rectangle.left,
+                rectangle.top,
+                rectangle.width,
+                rectangle.height,
+            ]
+        };
+        assert_eq!(
+            rectangle.map(sides),
+            enclosing_rectangle(image),
+            "seed {seed}: rectangles"
+        );
+        if let Some(rectangle) = rectangle {
+            coverage.add_rectangle(width, height, rectangle);
+        }
+    }
+
+    /// A file that may be refused, in buffers that may be refused.
+    fn damaged_cells(seed: u64, coverage: &mut CellCoverage) {
+        let mut random = Random::new(seed ^ CELLS_SALT);
+        let file = generate::bad_file(seed);
+        let lent = LentCells::of_any_length(&mut random, crops::words_of(&file));
+        let (answer, after) = file_cells(seed, &file, &lent);
+        coverage.add(answer);
+        assert!(
+            matches!(answer, 0 | crops::BLANK) || after == lent,
+            "seed {seed}: a refusal changes a buffer"
+        );
+    }
+
+    /// The answer of both readings to a file, and what they leave.
+    fn file_cells(seed: u64, file: &[u8], lent: &LentCells) -> (u32, LentCells) {
+        let [mut a, mut b] = [lent.clone(), lent.clone()];
+        let answer = harness::cells_file(file, &mut a.words, &mut a.cells);
+        let second = second::cells_file(file, &mut b.words, &mut b.cells);
+        assert_eq!(answer, second, "seed {seed}: cells of a file");
+        assert!(a == b, "seed {seed}: buffers after cells of a file");
+        (answer, a)
+    }
+
+    /// The answer of both readings to words, and the cells that they leave.
+    fn words_cells(seed: u64, image: Image, cells: &[u32]) -> (u32, Vec<u32>) {
+        let (words, width, height) = (image.words, image.width, image.height);
+        let [mut a, mut b] = [cells.to_vec(), cells.to_vec()];
+        let answer = harness::cells_words(words, width, height, &mut a);
+        let second = second::cells_words(words, width, height, &mut b);
+        assert_eq!(answer, second, "seed {seed}: cells of words");
+        assert!(a == b, "seed {seed}: buffers after cells of words");
+        (answer, a)
     }
 }

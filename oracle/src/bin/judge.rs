@@ -2,16 +2,25 @@
 
 use std::process::ExitCode;
 
-const HELP: &str = "usage: judge [--full] < CROP
+const HELP: &str = "usage: judge [--full | --cells] < CROP
 Prints the answer and counts, then one line for each kept record.
 --full   prints also all record words up to kept, a line each, and the marks, in hex
+--cells  prints the answer of cells and, with 0, the 33 words, a line each, in hex
 --help   prints this";
+
+/// What is printed of a crop.
+pub enum Asked {
+    Search,
+    FullSearch,
+    Cells,
+}
 
 fn main() -> ExitCode {
     let arguments: Vec<String> = std::env::args().skip(1).collect();
     match arguments.iter().map(String::as_str).collect::<Vec<_>>()[..] {
-        [] => judge::run(false),
-        ["--full"] => judge::run(true),
+        [] => judge::run(Asked::Search),
+        ["--full"] => judge::run(Asked::FullSearch),
+        ["--cells"] => judge::run(Asked::Cells),
         ["--help"] => {
             println!("{HELP}");
             ExitCode::SUCCESS
@@ -28,7 +37,7 @@ mod judge {
     use std::process::ExitCode;
 
     /// Without the source there is nothing to run.
-    pub fn run(_: bool) -> ExitCode {
+    pub fn run(_: super::Asked) -> ExitCode {
         eprintln!(
             "judge: built without the source; set ORACLE_SOURCE to its folder and build again"
         );
@@ -38,32 +47,54 @@ mod judge {
 
 #[cfg(source)]
 mod judge {
+    use super::Asked;
     use crops::{RECORD_WORDS, RECORDS};
     use oracle::{harness, lines};
     use std::io::{Read, Write, stdin, stdout};
     use std::process::ExitCode;
 
-    /// Searches standard input and prints.
-    pub fn run(full: bool) -> ExitCode {
+    /// Prints what is asked of standard input.
+    pub fn run(asked: Asked) -> ExitCode {
         let mut file = Vec::new();
         if let Err(error) = stdin().read_to_end(&mut file) {
             eprintln!("judge: {error}");
             return ExitCode::FAILURE;
         }
-        match stdout().write_all(printed(&file, full).as_bytes()) {
+        let text = match asked {
+            Asked::Search => searched(&file, false),
+            Asked::FullSearch => searched(&file, true),
+            Asked::Cells => cells(&file),
+        };
+        match stdout().write_all(text.as_bytes()) {
             Ok(()) => ExitCode::SUCCESS,
             Err(_) => ExitCode::FAILURE,
         }
     }
 
-    /// All that is printed for a file.
-    fn printed(file: &[u8], full: bool) -> String {
-        let length = match harness::check(file) {
-            0 => crops::dimensions(file)
-                .map_or(0, |(width, height)| crops::image_words(width, height)),
-            _ => 0,
-        };
-        let (mut words, mut marks) = (vec![0; length], vec![0; length]);
+    /// As many words as the image of a file has that no check refuses.
+    fn image_words(file: &[u8]) -> Vec<u64> {
+        match harness::check(file) {
+            0 => vec![0; crops::words_of(file)],
+            _ => Vec::new(),
+        }
+    }
+
+    /// The answer of cells, and the cells.
+    fn cells(file: &[u8]) -> String {
+        let mut cells = [0; crops::CELL_ROWS];
+        let answer = harness::cells_file(file, &mut image_words(file), &mut cells);
+        let mut text = format!("answer {answer}\n");
+        if answer == 0 {
+            for word in cells {
+                text += &lines::hex(&[word], 8);
+            }
+        }
+        text
+    }
+
+    /// The report and the records of a search, with all words and marks or without.
+    fn searched(file: &[u8], full: bool) -> String {
+        let (mut words, mut marks) = (image_words(file), image_words(file));
         let mut buffer = vec![0; RECORD_WORDS * RECORDS];
         let report = harness::search_file(file, &mut words, &mut buffer, &mut marks);
         let records = &buffer[..RECORD_WORDS * report.kept as usize];
@@ -79,19 +110,27 @@ mod judge {
 
     #[cfg(test)]
     mod tests {
-        use super::printed;
+        use super::{cells, searched};
 
         #[test]
         fn sample_line() {
             let mut file = vec![0x10, 0x21, 0x02, 0x10];
             file.resize(4 + 165, 0);
-            let text = printed(&file, false);
+            let text = searched(&file, false);
             assert_eq!(text, "answer 8 found 0 kept 0 marked 242\n");
+            assert_eq!(cells(&file), "answer 10\n");
+            file[4] = 0x80;
+            assert_eq!(
+                cells(&file),
+                "answer 0\n".to_string() + &"3fffffff\n".repeat(33)
+            );
         }
 
         #[test]
         fn refused_file() {
-            assert_eq!(printed(&[], false), "answer 1 found 0 kept 0 marked 0\n");
+            let text = "answer 1 found 0 kept 0 marked 0\n";
+            assert_eq!(searched(&[], false), text);
+            assert_eq!(cells(&[]), "answer 1\n");
         }
     }
 }

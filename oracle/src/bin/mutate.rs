@@ -1,4 +1,4 @@
-//! Puts deliberate slips into the second reading, one at a time, and says how many stored vectors notice each.
+//! Puts deliberate slips into the second reading, one at a time, and says how many stored vectors and stored cases notice each.
 //!
 //! usage: mutate [LABEL ..]    (from the package's folder; writes below target/slips)
 
@@ -19,7 +19,7 @@ fn main() {
     let second = second();
     let slips = slips(&fs::read_to_string("slips.txt").expect("slips.txt"));
     build_crops();
-    println!("| Slip | Vectors that notice it |\n|---|---|");
+    println!("| Slip | Vectors that notice it | Cases that notice it |\n|---|---|---|");
     let mut unseen = 0;
     for slip in slips
         .iter()
@@ -28,9 +28,9 @@ fn main() {
         let times = |(_, text): &Part| text.matches(&slip.old).count();
         let times: usize = second.iter().map(times).sum();
         assert_eq!(times, 1, "{}: its text occurs {times} times", slip.label);
-        let verdict = tried(slip, &second);
-        unseen += (verdict == "0") as usize;
-        println!("| {} | {verdict} |", slip.label);
+        let [vectors, cases] = tried(slip, &second);
+        unseen += (vectors == "0" && cases == "0") as usize;
+        println!("| {} | {vectors} | {cases} |", slip.label);
     }
     println!("\n{} slips, {unseen} unnoticed", slips.len());
 }
@@ -81,22 +81,16 @@ fn slips(text: &str) -> Vec<Slip> {
 fn build_crops() {
     fs::create_dir_all("target/slips").expect("target/slips");
     let status = Command::new("rustc")
-        .args([
-            "--edition",
-            "2024",
-            "--crate-type",
-            "rlib",
-            "--crate-name",
-            "crops",
-        ])
+        .args(["--edition", "2024", "-C", "opt-level=1"])
+        .args(["--crate-type", "rlib", "--crate-name", "crops"])
         .args(["-o", "target/slips/libcrops.rlib", "../crops/src/lib.rs"])
         .status()
         .expect("rustc");
     assert!(status.success(), "../crops does not build");
 }
 
-/// How many vectors notice the changed reading; one that panics or does not end is noticed too.
-fn tried(slip: &Slip, second: &[Part]) -> String {
+/// How many vectors and how many cases notice the changed reading; one that panics or does not end is noticed too.
+fn tried(slip: &Slip, second: &[Part]) -> [String; 2] {
     let label = &slip.label;
     let folder = PathBuf::from("target/slips").join(label.replace(' ', "_"));
     fs::create_dir_all(folder.join("second")).unwrap();
@@ -119,7 +113,9 @@ fn tried(slip: &Slip, second: &[Part]) -> String {
     outcome(&folder)
 }
 
-fn outcome(folder: &Path) -> String {
+/// What the program of a changed reading counts, a line for the vectors and one for the cases.
+fn outcome(folder: &Path) -> [String; 2] {
+    let both = |what: &str| [what, what].map(str::to_string);
     let out = fs::File::create(folder.join("out")).unwrap();
     let mut child = Command::new(folder.join("main"))
         .stdout(out)
@@ -129,34 +125,51 @@ fn outcome(folder: &Path) -> String {
     let start = Instant::now();
     loop {
         if let Some(status) = child.try_wait().unwrap() {
-            let count = fs::read_to_string(folder.join("out")).unwrap();
-            return if status.success() {
-                count.trim().to_string()
-            } else {
-                "it panics".to_string()
+            let counts = fs::read_to_string(folder.join("out")).unwrap();
+            return match counts.lines().collect::<Vec<_>>()[..] {
+                [vectors, cases] if status.success() => [vectors, cases].map(str::to_string),
+                _ => both("it panics"),
             };
         }
         if start.elapsed() > Duration::from_secs(20) {
             child.kill().unwrap();
             child.wait().unwrap();
-            return "it does not end".to_string();
+            return both("it does not end");
         }
         std::thread::sleep(Duration::from_millis(20));
     }
 }
 
-/// A program of the changed reading alone: it counts the vectors that notice.
+/// A program of the changed reading alone: it counts the vectors and the cases that notice.
 const MAIN: &str = r#"
 pub use crops::Report;
+#[path = "../../../src/crop.rs"]
+mod crop;
+#[path = "../../../src/cases/second.rs"]
+mod entries;
+#[path = "../../../src/lines.rs"]
+mod lines;
 mod second;
 #[path = "../../../src/vectors.rs"]
 mod vectors;
 
+use std::fs::{read, read_to_string};
+use std::panic::{AssertUnwindSafe, catch_unwind};
+
+use crops::cases::{Stock, compared};
+
+fn notices(differs: impl FnOnce() -> bool) -> bool {
+    catch_unwind(AssertUnwindSafe(differs)).unwrap_or(true)
+}
+
 fn main() {
-    let pack = std::fs::read("../crates/replay/stdin").unwrap();
-    let notices = |v: &vectors::Vector| {
-        std::panic::catch_unwind(|| v.replay(second::search_file)).map_or(true, |r| r.is_err())
-    };
-    println!("{}", vectors::read(&pack).iter().filter(|v| notices(v)).count());
+    let pack = vectors::read(&read("../crates/replay/stdin").unwrap());
+    let differs = |v: &vectors::Vector| v.replay(second::search_file).is_err();
+    println!("{}", pack.iter().filter(|v| notices(|| differs(v))).count());
+    let stock = Stock::parse(&read_to_string("cases/crops.txt").unwrap()).unwrap();
+    let cases = read_to_string("cases/cases.txt").unwrap();
+    let ran = |line: &str| compared(line, &stock, &entries::SECOND, |_, _| ());
+    let differs = |line: &str| ran(line).is_ok_and(|verdict| verdict.failed > 0);
+    println!("{}", cases.lines().filter(|line| notices(|| differs(line))).count());
 }
 "#;

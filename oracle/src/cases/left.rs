@@ -10,11 +10,12 @@ use crops::{
     words_of,
 };
 
+use super::cells;
 use crate::generate::{self, Random};
 use crate::second;
 
 /// Files of this many bytes or more are left out, but for those at the limits.
-const TOO_LONG: usize = 1_800;
+pub const TOO_LONG: usize = 1_800;
 
 /// How many crops are taken of a family with one answer, outcome and class, and how many files of a refusal.
 const OF_A_ROW: usize = 3;
@@ -38,15 +39,24 @@ const HEADING: &str = "\
 
 /// The crops' text and the left sides' text, from this seed on.
 pub fn made(seed: u64, seeds: u64) -> (String, String) {
-    let (mut crops, mut lines) = (String::new(), HEADING.to_string());
+    let (searched, filling) = (files(seed, seeds), cells::files(seed, seeds));
+    let all = || searched.iter().chain(&filling).zip(1..);
+    let crops = all().map(|(file, id)| Stock::line(&id.to_string(), file));
     let mut random = Random::new(seed);
-    for (file, id) in files(seed, seeds).iter().zip(1..) {
-        crops += &Stock::line(&id.to_string(), file);
-        for call in calls(&mut random, id, file) {
-            lines += &(call + "\n");
-        }
+    let mut lines: Vec<String> = Vec::new();
+    for (file, id) in searched.iter().zip(1..) {
+        lines.extend(calls(&mut random, id, file));
     }
-    (crops, lines)
+    for (file, id) in all() {
+        lines.extend(cells::calls(&mut random, id, file));
+    }
+    for id in [1, searched.len() + 1] {
+        lines.extend(cells::edges(id));
+    }
+    (
+        crops.collect(),
+        HEADING.to_string() + &lines.join("\n") + "\n",
+    )
 }
 
 fn files(seed: u64, seeds: u64) -> Vec<Vec<u8>> {
@@ -74,7 +84,7 @@ fn files(seed: u64, seeds: u64) -> Vec<Vec<u8>> {
 }
 
 /// A crop whose black pixels are those where `black` holds.
-fn painted(width: u32, height: u32, black: impl Fn(u32, u32) -> bool) -> Vec<u8> {
+pub fn painted(width: u32, height: u32, black: impl Fn(u32, u32) -> bool) -> Vec<u8> {
     let mut words = vec![0; image_words(width, height)];
     for (x, y) in (0..height).flat_map(|y| (0..width).map(move |x| (x, y))) {
         if black(x, y) {
@@ -167,16 +177,21 @@ fn calls(random: &mut Random, id: usize, file: &[u8]) -> Vec<String> {
 }
 
 /// The right length, or one that is wrong.
-fn length(random: &mut Random, n: usize) -> usize {
+pub fn length(random: &mut Random, n: usize) -> usize {
     random.pick(&[n, n, n, n.saturating_sub(1), n + 1, 2 * n, 0])
 }
 
-fn file_call(random: &mut Random, id: usize, n: usize) -> String {
-    let kind = match random.below(3) {
+/// The file's own kind, or one that is wrong.
+pub fn kind(random: &mut Random) -> String {
+    match random.below(3) {
         0 => format!(" kind={}", random.below(16)),
         1 => " kind=2".to_string(),
         _ => String::new(),
-    };
+    }
+}
+
+fn file_call(random: &mut Random, id: usize, n: usize) -> String {
+    let kind = kind(random);
     let [unpack, marks] = [(); 2].map(|()| length(random, n));
     let records = random.pick(&RECORDS);
     match random.below(6) {
@@ -210,7 +225,7 @@ fn words_call(random: &mut Random, id: usize, file: &[u8]) -> String {
 }
 
 /// Dimensions at the limits, or others that need as many words.
-fn size(random: &mut Random, file: &[u8]) -> String {
+pub fn size(random: &mut Random, file: &[u8]) -> String {
     match dimensions(file) {
         Some((width, height)) if width > 64 && random.one_in(2) => {
             let row = width.div_ceil(64);

@@ -3,6 +3,7 @@
 use super::super::super::common::BitMatrix;
 use super::super::super::{Point, Record, Report, point};
 use super::super::Trace;
+use super::cells::cells_of;
 use super::search::{boxed, search_image};
 use super::{Circle, detect, find_concentric_circles};
 
@@ -73,6 +74,12 @@ impl Prepared {
     #[inline(never)]
     pub fn search(&self, records: &mut [u32]) -> Report {
         search_image(&self.0, records)
+    }
+
+    /// Answer and cells of a symbol that fills the image.
+    #[inline(never)]
+    pub fn cells(&self, cells: &mut [u32]) -> u32 {
+        cells_of(&self.0, cells)
     }
 
     /// How many candidates the sweep finds.
@@ -239,6 +246,11 @@ pub fn corrected_centre(image: Image, centre: (u32, u32)) -> Marked<(u32, u32)> 
         circle.calculate_high_accuracy_center();
         (circle.center.x, circle.center.y)
     })
+}
+
+/// Left, top, width and height of the enclosing rectangle; none if no pixel is black. No read of it is marked.
+pub fn enclosing_rectangle(image: Image) -> Option<[u32; 4]> {
+    BitMatrix::of(image.words, image.width, image.height).getEnclosingRectangle()
 }
 
 /// Whether the 3 by 3 area about a pixel is black; none if it leaves the image.

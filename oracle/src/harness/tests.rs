@@ -1,6 +1,7 @@
-//! The entries: refusals, buffers, capacity, and that the log changes no result.
+//! The entries: refusals, buffers, capacity, cells, and that the log changes no result.
 
-use super::{check, plain, search_file, search_words};
+use super::steps::{Image, Prepared, enclosing_rectangle};
+use super::{cells_file, cells_words, check, plain, search_file, search_words};
 use crate::{RECORD_WORDS, Report};
 
 /// Noise of the given density in 1/256.
@@ -142,5 +143,78 @@ fn entries_agree_on_noise() {
         let from_file = search_file(&file, &mut unpacked, &mut other, &mut again);
         assert_eq!((from_file, &other), (logged, &records));
         assert_eq!((unpacked, again), (words, marks));
+    }
+}
+
+#[test]
+fn refusals_of_cells_change_no_buffer() {
+    let words = noise(65, 40, 100, 1);
+    let file = crops::pack(&words, 65, 40);
+    let cases = [
+        (&file[..3], 80, 33, 1),
+        (&file[..9], 80, 33, 4),
+        (&file[..], 79, 33, 6),
+        (&file[..], 81, 33, 6),
+        (&file[..], 80, 32, 6),
+        (&file[..], 80, 34, 6),
+    ];
+    for (file, to, room, answer) in cases {
+        let (mut unpacked, mut cells) = (vec![7; to], vec![7; room]);
+        assert_eq!(cells_file(file, &mut unpacked, &mut cells), answer);
+        assert!(unpacked.iter().all(|word| *word == 7));
+        assert!(cells.iter().all(|word| *word == 7));
+    }
+    let answer = |words: &[u64], width, height, room| {
+        let mut cells = vec![7; room];
+        let answer = cells_words(words, width, height, &mut cells);
+        assert!(cells.iter().all(|word| *word == 7));
+        answer
+    };
+    assert_eq!(answer(&words, u32::MAX, u32::MAX, 0), 2);
+    assert_eq!(answer(&words, 2048, 251, 33), 3);
+    assert_eq!(answer(&words, 65, 41, 33), 4);
+    assert_eq!(answer(&[u64::MAX; 80], 65, 40, 0), 5);
+    for room in [0, 32, 34, 40] {
+        assert_eq!(answer(&words, 65, 40, room), 6);
+        assert_eq!(answer(&[0; 80], 65, 40, room), 6);
+    }
+    assert_eq!(answer(&[0; 80], 65, 40, 33), crops::BLANK);
+}
+
+/// A blank file is unpacked, and its cells stay.
+#[test]
+fn a_blank_file_is_unpacked() {
+    let (mut words, mut cells) = (vec![7; 80], [7; 33]);
+    let file = crops::pack(&[0; 80], 65, 40);
+    assert_eq!(cells_file(&file, &mut words, &mut cells), crops::BLANK);
+    assert_eq!((words, cells), (vec![0; 80], [7; 33]));
+}
+
+/// Words, file and prepared image, logged and plain, have the same cells on noise of many kinds.
+#[test]
+fn cells_agree_on_noise() {
+    for seed in 0..600 {
+        let width = [33, 63, 64, 65, 127, 128, 129][seed as usize % 7];
+        let height = 33 + seed as u32 % 40;
+        let words = noise(width, height, seed % 257, seed);
+        let mut all = [[1; 33], [2; 33], [3; 33], [4; 33]];
+        let [logged, plain, from_file, prepared] = &mut all;
+        let answer = cells_words(&words, width, height, logged);
+        assert_eq!(plain::cells_words(&words, width, height, plain), answer);
+        let mut unpacked = vec![3; words.len()];
+        let file = crops::pack(&words, width, height);
+        assert_eq!(cells_file(&file, &mut unpacked, from_file), answer);
+        assert_eq!(unpacked, words);
+        let image = Image {
+            words: &words,
+            width,
+            height,
+        };
+        assert_eq!(Prepared::new(image).cells(prepared), answer);
+        assert_eq!(enclosing_rectangle(image).is_none(), answer == crops::BLANK);
+        if answer == 0 {
+            assert!(all.iter().all(|cells| *cells == all[0]));
+            assert!(all[0].iter().all(|word| word >> crops::CELL_COLUMNS == 0));
+        }
     }
 }

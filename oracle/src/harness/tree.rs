@@ -68,6 +68,11 @@ mod maxicode {
         include!(concat!(env!("OUT_DIR"), "/detector.rs"));
 
         #[warn(dead_code, non_snake_case, private_interfaces, clippy::all)]
+        pub(in super::super) mod cells {
+            include!("cells.rs");
+        }
+
+        #[warn(dead_code, non_snake_case, private_interfaces, clippy::all)]
         pub(in super::super) mod search {
             include!("search.rs");
         }
@@ -115,6 +120,30 @@ pub fn search_file(
     }
     crops::unpack(file, words);
     maxicode::detector::search::search(words, width, height, records, marks)
+}
+
+/// The cells of an unpacked image.
+pub fn cells_words(words: &[u64], width: u32, height: u32, cells: &mut [u32]) -> u32 {
+    match crop::check_words(words, width, height) {
+        0 if cells.len() != crops::CELL_ROWS => 6,
+        0 => maxicode::detector::cells::cells(words, width, height, cells),
+        refusal => refusal,
+    }
+}
+
+/// The cells of a crop file, unpacked into `words`.
+pub fn cells_file(file: &[u8], words: &mut [u64], cells: &mut [u32]) -> u32 {
+    match crop::check_file(file) {
+        0 if cells.len() != crops::CELL_ROWS => return 6,
+        0 => (),
+        refusal => return refusal,
+    }
+    let refusal = crop::unpack_file(file, words);
+    if refusal != 0 {
+        return refusal;
+    }
+    let (width, height) = crops::dimensions(file).unwrap_or_default();
+    maxicode::detector::cells::cells(words, width, height, cells)
 }
 
 /// The report of a refused input.

@@ -1,6 +1,7 @@
 //! The rules' near pairs and the edges of each step.
 
 mod canvas;
+mod cells;
 mod entries;
 mod steps;
 mod turns;

@@ -1,12 +1,12 @@
 //! Holds the proved finder against the judge on generated crops, each with every capacity and one length more, as a file and as
-//! words. A crop that shows a difference is made smaller and written out.
+//! words, and its cells and those of a crop for cells. A crop that shows a difference is made smaller and written out.
 //!
 //! usage: compare [--seed S] [--count N] [--seconds N] [--threads N] [--guards 0]
 
 use std::process::ExitCode;
 
-use oracle::generate::{Crop, Random};
-use oracle::{Entries, JUDGE};
+use oracle::generate::{self, Crop, Random};
+use oracle::{Entries, JUDGE, Report};
 use trials::PRODUCT;
 use trials::call::{Call, Trial};
 use trials::cases::{self, CAPACITIES};
@@ -33,11 +33,30 @@ struct Worker {
     tally: Tally,
 }
 
-/// How a crop is searched.
+/// What is asked of a crop.
+#[derive(Clone, Copy)]
+enum What {
+    /// A search with so many record words.
+    Search(usize),
+    Cells,
+}
+
+/// How a crop is handed over.
 #[derive(Clone, Copy)]
 struct How {
-    records: usize,
+    what: What,
     as_file: bool,
+}
+
+impl How {
+    /// The call, as a file if that is handed over.
+    fn call<'a>(self, crop: &'a Crop, file: &'a [u8]) -> Call<'a> {
+        let file = self.as_file.then_some(file);
+        match self.what {
+            What::Search(records) => Call::fitting(crop, file, records),
+            What::Cells => Call::cells(crop, file),
+        }
+    }
 }
 
 impl Worker {
@@ -48,46 +67,66 @@ impl Worker {
         }
     }
 
-    /// The crop of a seed with all its lengths; false after a difference.
+    /// The crop of a seed with all its lengths, and the cells of a seed; false after a difference.
     fn passes(&mut self, seed: u64) -> bool {
         let crop = cases::crop(seed);
-        let file = crop.file();
         self.tally.tried += 1;
         self.tally.add("families", crop.family);
+        let filling = generate::filling(seed);
+        self.tally.add("filling", filling.family);
+        self.searches(seed, &crop) && self.cells(seed, &crop) && self.cells(seed, &filling)
+    }
+
+    /// A crop searched with all its lengths.
+    fn searches(&mut self, seed: u64, crop: &Crop) -> bool {
+        let file = crop.file();
         let mut random = Random::new(seed ^ 0x6c65_6e67_7468);
         let mut as_file = random.one_in(2);
         let mut found = 0;
         for (capacity, name) in CAPACITIES.into_iter().chain([(0, "odd")]) {
             let records = match capacity {
-                0 => cases::odd_length(&mut random, &crop, found),
+                0 => cases::odd_length(&mut random, crop, found),
                 _ => cases::length_of(&mut random, capacity),
             };
-            let how = How { records, as_file };
-            let Some(more) = self.search(seed, &crop, &file, how) else {
+            let what = What::Search(records);
+            let Some(report) = self.compare(seed, crop, &file, How { what, as_file }) else {
                 return false;
             };
+            self.tally.search(&report, self.trial.records());
             self.tally.add("capacities", name);
-            found = more;
+            found = report.found;
             as_file = !as_file;
         }
         true
     }
 
-    /// One search of each; how many candidates both find.
-    fn search(&mut self, seed: u64, crop: &Crop, file: &[u8], how: How) -> Option<u32> {
-        let call = Call::fitting(crop, how.as_file.then_some(file), how.records);
-        match self.trial.compare(&call) {
+    /// A crop's cells, as a file and as words.
+    fn cells(&mut self, seed: u64, crop: &Crop) -> bool {
+        let file = crop.file();
+        [true, false].into_iter().all(|as_file| {
+            let what = What::Cells;
+            let report = self.compare(seed, crop, &file, How { what, as_file });
+            report.is_some_and(|report| {
+                self.tally.cells(report.answer);
+                true
+            })
+        })
+    }
+
+    /// One call of each; the report of both, unless they differ.
+    fn compare(&mut self, seed: u64, crop: &Crop, file: &[u8], how: How) -> Option<Report> {
+        match self.trial.compare(&how.call(crop, file)) {
             Ok(report) => {
-                self.tally.search(&report, self.trial.records());
                 self.tally
                     .add("entries", if how.as_file { "file" } else { "words" });
-                Some(report.found)
+                Some(report)
             }
             Err(what) => {
-                println!(
-                    "difference: seed {seed}, {}, {} record words: {what}",
-                    crop.family, how.records
-                );
+                let asked = match how.what {
+                    What::Search(records) => format!("{records} record words"),
+                    What::Cells => "cells".to_string(),
+                };
+                println!("difference: seed {seed}, {}, {asked}: {what}", crop.family);
                 self.tally.differences += 1;
                 self.write_out(seed, crop, how);
                 None
@@ -97,9 +136,8 @@ impl Worker {
 
     fn write_out(&mut self, seed: u64, crop: &Crop, how: How) {
         let mut compare = |crop: &Crop| {
-            let file = how.as_file.then(|| crop.file());
-            let call = Call::fitting(crop, file.as_deref(), how.records);
-            self.trial.compare(&call).err()
+            let file = crop.file();
+            self.trial.compare(&how.call(crop, &file)).err()
         };
         let small = shrink::shrink(crop, |crop| compare(crop).is_some());
         shrink::report(&small, &format!("compare-{seed}"), compare(&small));

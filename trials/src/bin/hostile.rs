@@ -1,5 +1,5 @@
-//! Holds the proved finder against the judge on calls that are mostly refused: the first true number, counts of 0, and nothing
-//! changed.
+//! Holds the proved finder against the judge on calls that are mostly refused, a search and cells for each seed: the first true
+//! number, counts of 0, and nothing changed.
 //!
 //! usage: hostile [--seed S] [--count N] [--seconds N] [--threads N] [--guards 0]
 
@@ -7,7 +7,7 @@ use std::process::ExitCode;
 
 use oracle::JUDGE;
 use trials::PRODUCT;
-use trials::call::{Input, Trial};
+use trials::call::{Asked, Call, Input, Trial};
 use trials::hostile::{Caller, SPOILT};
 use trials::run::{self, Plan};
 use trials::tally::Tally;
@@ -25,7 +25,7 @@ fn main() -> ExitCode {
     let workers = plan.each_seed(worker, Worker::passes);
     run::finish(
         "hostile",
-        "calls",
+        "seeds",
         workers.into_iter().map(|worker| worker.tally),
     )
 }
@@ -37,7 +37,7 @@ struct Worker {
 }
 
 impl Worker {
-    /// The call of a seed; false after a difference.
+    /// The two calls of a seed; false after a difference.
     fn passes(&mut self, seed: u64) -> bool {
         let Worker {
             caller,
@@ -45,24 +45,25 @@ impl Worker {
             tally,
         } = self;
         tally.tried += 1;
-        caller.with_call(seed, |call, spoilt| match trial.compare(call) {
+        let mut passes = |call: &Call, spoilt: usize| match trial.compare(call) {
             Ok(report) => {
-                tally.search(&report, trial.records());
+                match call.asked {
+                    Asked::Search { .. } => tally.search(&report, trial.records()),
+                    Asked::Cells { .. } => tally.cells(report.answer),
+                }
                 tally.add("spoilt conditions", SPOILT[spoilt]);
                 tally.add("entries", entry(&call.input));
                 true
             }
             Err(what) => {
                 println!("difference: seed {seed}: {what}");
-                println!(
-                    "lent words {}, records {}, marks {}",
-                    call.words, call.records, call.marks
-                );
+                println!("lent words {}; {:?}", call.words, call.asked);
                 describe(&call.input);
                 tally.differences += 1;
                 false
             }
-        })
+        };
+        caller.with_search(seed, &mut passes) && caller.with_cells(seed, &mut passes)
     }
 }
 

@@ -1,40 +1,24 @@
 -- `crop::file_refusal` meets its contract: at each return, the tests that led there decide the definition's. Assumes nothing.
 use Prim.Native.Nat.{ℕ}
-use native.Mathlib.Omega.{arith}
-use mathlib.Core.Bool.{Bool, true, false, cond, _||_}
-use mathlib.Core.Path.{_≡_, refl, sym, ap, _∙_}
+use mathlib.Core.Bool.{Bool, cond, _||_}
+use mathlib.Core.Path.{_≡_, ap, _∙_}
 use borrow.Author.Needs.{needs}
-use borrow.Author.Tests.{eqb-false}
-use lib.Dec.{eqb}
 use Rattle.crop.specs.Crop.{noRoom}
 use Rattle.crop.specs.CropClauses.{orSix}
+use Rattle.crop.specs.CropLaws.{six-kept, six-next, six-both}
 use Rattle.crop.proofs.file_refusal.Statement.{statement}
 use Rattle.crop.proofs.file_refusal.Tie as tie
 
--- the lent words first, and then the room for a search
-module _ (number : ℕ) (unfit full : Bool) {n : ℕ} (is : n ≡ orSix number unfit) where
-  six-more : (n ≡ 0 → ⊥) → n ≡ orSix number (unfit || full)
-  unfolding orSix
-  six-more some = go (eqb number 0) unfit is
-    where
-      go : (t u : Bool) → n ≡ cond t (cond u 6 0) number → n ≡ cond t (cond (u || full) 6 0) number
-      go false u e = e
-      go true true e = e
-      go true false e = absurd (some e)
+-- the lent words first, and then the room for a search, by the image's words as they were worked out
+module _ (number : ℕ) (unfit : Bool) {answer : ℕ} (is : answer ≡ orSix number unfit) where
+  six-more : (full : Bool) → (answer ≡ 0 → ⊥) → answer ≡ orSix number (unfit || full)
+  six-more full some = six-kept full some ∙ ap (λ (n : ℕ). orSix n full) is ∙ six-both number unfit full
 
-  six-last : {r : ℕ} → n ≡ 0 → r ≡ cond full 6 0 → r ≡ orSix number (unfit || full)
-  unfolding orSix
-  six-last {r} none same = go (eqb number 0) unfit refl is
-    where
-      go : (t u : Bool) → eqb number 0 ≡ t → n ≡ cond t (cond u 6 0) number → r ≡ cond t (cond (u || full) 6 0) number
-      go false u t e = absurd (eqb-false _ _ t (sym e ∙ none))
-      go true true t e = absurd (omega arith)
-      go true false t e = same
-
--- the room by the image's words, as they were worked out
-onward : (number : ℕ) (unfit : Bool) {answer n needed r : ℕ} (marks records : ℕ) → answer ≡ orSix number unfit → answer ≡ 0 → n ≡ needed
-    → r ≡ cond (noRoom n marks records) 6 0 → r ≡ orSix number (unfit || noRoom needed marks records)
-onward number unfit marks records e zero is room = six-last number unfit _ e zero (room ∙ ap (λ (n : ℕ). cond (noRoom n marks records) 6 0) is)
+  onward : {n needed r : ℕ} (marks records : ℕ) → answer ≡ 0 → n ≡ needed → r ≡ cond (noRoom n marks records) 6 0
+      → r ≡ orSix number (unfit || noRoom needed marks records)
+  onward {needed = needed} marks records zero n-is room =
+      let full : Bool = noRoom needed marks records in
+      six-next full zero (room ∙ ap (λ (n : ℕ). cond (noRoom n marks records) 6 0) n-is) ∙ ap (λ (n : ℕ). orSix n full) is ∙ six-both number unfit full
 
 unpack-refusal-requires : tie.Need-unpack-refusal-requires
 unpack-refusal-requires c κs = search needs

@@ -1,23 +1,14 @@
 -- `crop::unpack_refusal` meets its contract: at each return, the tests that led there decide the definition's. Assumes nothing.
 use Prim.Native.Nat.{ℕ}
-use mathlib.Core.Bool.{Bool, cond}
 use mathlib.Core.Path.{_≡_, refl, sym, _∙_}
 use borrow.Author.Needs.{needs}
 use borrow.Author.Tests.{eq-eqb, ne-eqb}
 use Rattle.crop_sizes.specs.ChainLaws.{chain-here, chain-next, not-holds, not-fails}
 use Rattle.crop_sizes.specs.Sizes.{misfit}
 use Rattle.crop.specs.CropClauses.{orSix}
+use Rattle.crop.specs.CropLaws.{six-kept, six-next}
 use Rattle.crop.proofs.unpack_refusal.Statement.{statement}
 use Rattle.crop.proofs.unpack_refusal.Tie as tie
-
--- a number of its own, and the number of what is lent
-six-kept : {n : ℕ} (unfit : Bool) → (n ≡ 0 → ⊥) → n ≡ orSix n unfit
-unfolding orSix
-six-kept {n} unfit some = rw (ne-eqb n 0 some) refl
-
-six-next : {n r : ℕ} (unfit : Bool) → n ≡ 0 → r ≡ cond unfit 6 0 → r ≡ orSix n unfit
-unfolding orSix
-six-next {n} unfit none same = rw (eq-eqb n 0 none) same
 
 -- the lengths against the image's words, as they were worked out
 module _ {answer n needed : ℕ} (words : ℕ) (zero : answer ≡ 0) (is : n ≡ needed) where

@@ -1,53 +1,34 @@
--- `crop::words_refusal` meets its contract: one lemma for each return, by the shape that was worked out. Assumes nothing.
+-- `crop::words_refusal` meets its contract: the numbers of the image first, and then the room for a search. Assumes nothing.
 use Prim.Native.Nat.{ℕ}
-use native.Mathlib.Omega.{arith}
-use mathlib.Core.Bool.{Bool, true, false, cond}
+use mathlib.Core.Bool.{false, cond}
 use mathlib.Core.List.{List}
-use mathlib.Core.Path.{_≡_, refl, sym, ap, ap₂, _∙_}
+use mathlib.Core.Path.{_≡_, sym, ap, _∙_}
 use borrow.Author.Needs.{needs}
-use lib.ListN.{length}
 use Rattle.bit_matrix.specs.declared.Shape.{Shape}
 use Rattle.bit_matrix.specs.Shape.{shapeOf, size}
-use Rattle.bit_matrix.specs.ShapeClauses.{Limits}
-use Rattle.crop_sizes.specs.ChainLaws.{chain-here, chain-next}
-use Rattle.crop_sizes.specs.Sizes.{leastSide, imageRefusal}
-use Rattle.crop_sizes.specs.SizesLaws.{rows-of, image-within, size-kept, size-next}
-use Rattle.crop_padding.specs.Padding.{wordsPadded}
-use Rattle.crop.specs.Crop.{noRoom, wordsRefusal}
+use Rattle.crop_sizes.specs.SizesLaws.{rows-of}
+use Rattle.crop.specs.Crop.{noRoom, wordsRefusalOf, wordsRefusal}
+use Rattle.crop.specs.CropClauses.{orSix}
+use Rattle.crop.specs.CropLaws.{six-kept, six-next, words-six}
 use Rattle.crop.proofs.words_refusal.Statement.{statement}
 use Rattle.crop.proofs.words_refusal.Tie as tie
 
-module _ (words : List ℕ) (w h marks records : ℕ) {shape : Shape} (is : shape ≡ shapeOf w h) {needed answer : ℕ} (needed-is : needed ≡ size shape)
-    (sized : answer ≡ imageRefusal leastSide shape (length words) needed false false) where
-  module _ (zero : answer ≡ 0) where
-    limited : Limits shape
-    limited = image-within leastSide (omega arith) shape (length words) needed _ _ (rows-of is) (sym sized ∙ zero) .0
+module _ (words : List ℕ) (w h marks records : ℕ) {answer : ℕ} (checked : answer ≡ wordsRefusalOf words w h false) where
+  six-is : orSix answer (noRoom (size (shapeOf w h)) marks records) ≡ wordsRefusal words w h marks records
+  six-is = ap (λ (n : ℕ). orSix n (noRoom (size (shapeOf w h)) marks records)) checked ∙ sym (words-six words w h _)
 
-    fitting : length words ≡ size shape
-    fitting = image-within leastSide (omega arith) shape (length words) needed _ _ (rows-of is) (sym sized ∙ zero) .1 ∙ needed-is
+  bad-image : (answer ≡ 0 → ⊥) → answer ≡ wordsRefusal words w h marks records
+  bad-image some = six-kept _ some ∙ six-is
 
-  long : needed ≡ size (shapeOf w h)
-  long = needed-is ∙ ap size is
+  onward : {shape : Shape} {needed r : ℕ} → answer ≡ 0 → shape ≡ shapeOf w h → needed ≡ size shape → r ≡ cond (noRoom needed marks records) 6 0
+      → r ≡ wordsRefusal words w h marks records
+  onward zero is needed-is room = six-next _ zero (room ∙ ap (λ (n : ℕ). cond (noRoom n marks records) 6 0) (needed-is ∙ ap size is)) ∙ six-is
 
-  size-is : answer ≡ imageRefusal leastSide (shapeOf w h) (length words) (size (shapeOf w h)) false false
-  size-is = sized ∙ ap₂ (λ (s : Shape) (n : ℕ). imageRefusal leastSide s (length words) n false false) is long
+check-words-requires : tie.Need-check-words-requires
+check-words-requires c κs = search needs
 
-  bad-size : (answer ≡ 0 → ⊥) → answer ≡ wordsRefusal words w h marks records
-  unfolding wordsRefusal
-  bad-size ne = size-kept _ _ _ _ _ _ size-is ne
-
-  module _ (zero : answer ≡ 0) {padded : Bool} (tested : padded ≡ wordsPadded words (shape .width) (shape .height)) where
-    tested-is : wordsPadded words w h ≡ padded
-    tested-is = sym (tested ∙ ap (λ (s : Shape). wordsPadded words (s .width) (s .height)) is)
-
-    bad-padding : padded ≡ true → 5 ≡ wordsRefusal words w h marks records
-    unfolding wordsRefusal
-    bad-padding set = size-next _ _ _ _ _ _ size-is zero (chain-here 5 _ (tested-is ∙ set) refl)
-
-    onward : {r : ℕ} → padded ≡ false → r ≡ cond (noRoom needed marks records) 6 0 → r ≡ wordsRefusal words w h marks records
-    unfolding wordsRefusal
-    onward clean room =
-        size-next _ _ _ _ _ _ size-is zero (chain-next 5 _ (tested-is ∙ clean) (room ∙ ap (λ (n : ℕ). cond (noRoom n marks records) 6 0) long))
+returns : tie.Need-returns
+returns c = search bad-image
 
 shape-of-requires : tie.Need-shape-of-requires
 shape-of-requires c κs = search needs
@@ -55,33 +36,13 @@ shape-of-requires c κs = search needs
 image-words-requires : tie.Need-image-words-requires
 image-words-requires c κs = search rows-of
 
-size-refusal-requires : tie.Need-size-refusal-requires
-size-refusal-requires c κs = search rows-of
-
-returns : tie.Need-returns
-returns c = search bad-size
-
-words-padded-requires : tie.Need-words-padded-requires
-words-padded-requires c κs = search (limited, fitting)
-
-returns-2 : tie.Need-returns-2
-returns-2 c = search bad-padding
-
 search-room-requires : tie.Need-search-room-requires
 search-room-requires c κs = search needs
 
-returns-3 : tie.Need-returns-3
-returns-3 c = search onward
+returns-2 : tie.Need-returns-2
+returns-2 c = search onward
 
 pub words-refusal-spec : {M : Type 1} → statement M
 words-refusal-spec =
     tie.close
-    (tie.spec
-    shape-of-requires
-    image-words-requires
-    size-refusal-requires
-    returns
-    words-padded-requires
-    returns-2
-    search-room-requires
-    returns-3)
+    (tie.spec check-words-requires returns shape-of-requires image-words-requires search-room-requires returns-2)

@@ -2,22 +2,20 @@
 -- Assumes nothing.
 use Prim.Native.Nat.{ℕ, suc, _+_, _*_, _-_, _/_, _%_, _≤_, _<_, min}
 use native.Mathlib.Nat.{mul-le-mul-right}
-use native.Mathlib.Numerals.{add-one}
 use native.Mathlib.Decide.{decLt}
 use native.Mathlib.Omega.{arith}
 use mathlib.Core.Bool.{false, cond}
-use mathlib.Core.List.{List, _++_, append-nil}
+use mathlib.Core.List.{List, _++_}
 use mathlib.Core.Path.{_≡_, refl, sym, ap, ap₂, _∙_}
 use borrow.Author.Needs.{needs}
 use borrow.Author.Tests.{lt-ltb, le-ltb}
 use lib.Dec.{ltb}
-use lib.ListN.{length, getD, set, drop, length-set, drop-of-length-le}
-use lib.Seq.{append-snoc, drop-cons, set-at}
+use lib.ListN.{length, getD, set, drop, length-set}
 use Rattle.reads.specs.Bits.{testBit}
 use Rattle.crop_padding.specs.Below.{firsts, number}
 use Rattle.crop_padding.specs.AnyLaws.{none-holds}
 use Rattle.crop_padding.specs.NumberLaws.{number-lt, number-same, test-number, test-past}
-use Rattle.crop_rows.specs.FirstsLaws.{length-firsts}
+use Rattle.crop_rows.specs.FirstsLaws.{firsts-none, firsts-more, firsts-all}
 use Rattle.crop_rows.specs.Bytes.{byteBit, mirrored}
 use Rattle.bit_matrix.specs.declared.Shape.{Shape}
 use Rattle.bit_matrix.specs.Shape.{rowWords, size}
@@ -28,21 +26,6 @@ use Rattle.crop_rows.specs.Unpack.{pixelOf, wordOf, unpacked}
 use Rattle.crop_rows.specs.UnpackLaws.{word-at}
 use Rattle.crop_rows.proofs.unpack_rows.Statement.{statement}
 use Rattle.crop_rows.proofs.unpack_rows.Tie as tie
-
--- a loop that stores the first values of f in a lent list: before it, a turn, and at its end
-module _ (f : ℕ → ℕ) where
-  firsts-none : (d : List ℕ) → d ≡ firsts f 0 ++ drop 0 d
-  unfolding firsts
-  firsts-none d = refl
-
-  firsts-more : (d : List ℕ) (n : ℕ) {v : ℕ} → n < length d → v ≡ f n → set (firsts f n ++ drop n d) n v ≡ firsts f (n + 1) ++ drop (n + 1) d
-  unfolding firsts
-  firsts-more d n {v} h e =
-      rw (add-one, drop-cons d n 0 h, e)
-      (set-at (firsts f n) (getD d n 0) (drop (suc n) d) (f n) n (length-firsts f n) ∙ sym (append-snoc (firsts f n) (f n) (drop (suc n) d)))
-
-  firsts-all : (d : List ℕ) {n : ℕ} → length d ≤ n → firsts f n ++ drop n d ≡ firsts f n
-  firsts-all d {n} h = rw drop-of-length-le (append-nil (firsts f n))
 
 -- bit k of word x lies in the row's bytes before and after its byte is reversed
 mirrored-in : (bytes x k : ℕ) → k < 64 → x * 64 + k < 8 * bytes → mirrored k < 8 * min 8 (bytes - 8 * x)

@@ -14,11 +14,10 @@ use Rattle.crop_rows.specs.UnpackClauses.{FileAccepted}
 use Rattle.crop_rows.specs.UnpackLaws.{length-unpacked}
 use Rattle.crop.specs.Crop.{fileShape, image, noRoom, fileRefusal}
 use Rattle.crop.specs.CropClauses.{Checks, orSix, FileReady}
-use Rattle.crop.specs.CropLaws.{file-refusal-by, ready-shape, file-ready-by, checked-rows}
+use Rattle.crop.specs.CropLaws.{is-refused, is-accepted, file-refusal-by, ready-shape, file-ready-by, checked-rows}
 use Rattle.crop.specs.declared.Checked.{Checked}
 use Rattle.detector.specs.Detector.{Run, run, refusedReport, acceptedRun, filed, fileRun}
 use Rattle.detector.specs.declared.Report.{Report}
-use Rattle.detector.specs.DetectorLaws.{is-refused, is-accepted}
 use Rattle.detector.proofs.search_checked.Statement.{statement}
 use Rattle.detector.proofs.search_checked.Tie as tie
 

@@ -9,10 +9,9 @@ use Rattle.bit_matrix.specs.Shape.{shapeOf}
 use Rattle.bit_matrix.specs.ShapeClauses.{Image}
 use Rattle.crop.specs.Crop.{wordsRefusal}
 use Rattle.crop.specs.CropClauses.{WordsAccepted}
-use Rattle.crop.specs.CropLaws.{words-accepted}
+use Rattle.crop.specs.CropLaws.{is-refused, is-accepted, words-accepted}
 use Rattle.detector.specs.Detector.{Run, run, refusedReport, acceptedRun, wordsRun}
 use Rattle.detector.specs.declared.Report.{Report}
-use Rattle.detector.specs.DetectorLaws.{is-refused, is-accepted}
 use Rattle.detector.proofs.search_words.Statement.{statement}
 use Rattle.detector.proofs.search_words.Tie as tie
 

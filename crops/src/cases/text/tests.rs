@@ -35,6 +35,16 @@ fn search_words(
     }
 }
 
+fn cells_file(file: &[u8], words: &mut [u64], cells: &mut [u32]) -> u32 {
+    words.fill(8);
+    cells_words(words, file.len() as u32, 9, cells)
+}
+
+fn cells_words(words: &[u64], width: u32, height: u32, cells: &mut [u32]) -> u32 {
+    cells.fill(width + height);
+    words.len() as u32
+}
+
 fn program(_: &[u8]) -> Result<Vec<u8>, String> {
     Ok(b"answer 8 found 0 kept 0 marked 242\n".to_vec())
 }
@@ -44,6 +54,8 @@ const ENTRIES: Entries = Entries {
     unpack,
     search_file,
     search_words,
+    cells_file,
+    cells_words,
     program: Some(&program),
 };
 
@@ -78,6 +90,16 @@ fn what_is_seen() {
         seen("search words=1 size=40x41 cut=34 flip=2111 marks=1 records=2"),
         format!("answer=1 found=40 kept=41 marked=34 {buffers}")
     );
+    let (words, cells) = (hash_u64(&[8]), hash_u32(&[178, 178]));
+    assert_eq!(
+        seen("cells file=1 unpack=1 cells=2"),
+        format!("answer=1 words=1:{words:016x} cells=2:{cells:016x}")
+    );
+    let cells = hash_u32(&[66]);
+    assert_eq!(
+        seen("cells words=1 cells=1"),
+        format!("answer=33 cells=1:{cells:016x}")
+    );
 }
 
 #[test]
@@ -100,7 +122,7 @@ fn bytes_are_a5_before() {
 #[test]
 fn lines_are_counted() {
     let cases = "# a comment\nhost file=1 => answer=0\n| a table\nhost file=1 => answer=3\n\
-                 cells words=1 cells=33\nsearch words=1 marks=1 records=2 counts=right => answer=6\n\
+                 fill words=1 length=33\nsearch words=1 marks=1 records=2 counts=right => answer=6\n\
                  host file=1\n";
     let mut differences = String::new();
     let verdict = compared(cases, &stock(), &ENTRIES, |line, seen| {
@@ -128,8 +150,8 @@ fn writing_keeps_the_left_sides() {
         "# a comment\nhost kind=1 file=1 => answer=3\nhost file=1\ntake lanes=x => taken=1\n";
     let problem = written(cases, &stock(), &ENTRIES).unwrap_err();
     assert_eq!(problem.to_string(), "line 4: lanes: no lane");
-    let cases = "# a comment\nhost kind=1 file=1 => answer=3\nhost file=1\ncells words=1 cells=3 => answer=6\n";
-    let expected = "# a comment\nhost kind=1 file=1 => answer=0\nhost file=1 => answer=0\ncells words=1 cells=3 => answer=6\n";
+    let cases = "# a comment\nhost kind=1 file=1 => answer=3\nhost file=1\nfill words=1 length=3 => answer=6\n";
+    let expected = "# a comment\nhost kind=1 file=1 => answer=0\nhost file=1 => answer=0\nfill words=1 length=3 => answer=6\n";
     assert_eq!(written(cases, &stock(), &ENTRIES).unwrap(), expected);
 }
 

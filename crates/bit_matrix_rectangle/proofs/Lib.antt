@@ -1,0 +1,2 @@
+mod Extremes
+mod Words

@@ -1,0 +1,4 @@
+pub mod Rectangle
+pub mod RectangleClauses
+pub mod ExtremesLaws
+pub mod RectangleLaws
