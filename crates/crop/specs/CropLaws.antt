@@ -17,7 +17,21 @@ use Rattle.crop_padding.specs.Padding.{filePadded, wordsPadded}
 use Rattle.crop_rows.specs.Unpack.{unpacked}
 use Rattle.crop_rows.specs.UnpackClauses.{FileAccepted}
 use Rattle.crop_rows.specs.UnpackLaws.{length-unpacked, unpacked-clean}
-use Rattle.crop.specs.Crop.{fileShape, fileWords, width, height, badHeader, refusalOf, fileKind, noRoom, unpackRefusal, fileRefusal, wordsRefusalOf, wordsRefusal, refusedOr}
+use Rattle.crop.specs.Crop.{
+  fileShape,
+  fileWords,
+  width,
+  height,
+  badHeader,
+  refusalOf,
+  fileKind,
+  noRoom,
+  unpackRefusal,
+  fileRefusal,
+  wordsRefusalOf,
+  wordsRefusal,
+  refusedOr,
+}
 use Rattle.crop.specs.CropClauses.{Checks, orSix, WordsAccepted, FileReady}
 use Rattle.crop.specs.declared.Checked.{Checked}
 

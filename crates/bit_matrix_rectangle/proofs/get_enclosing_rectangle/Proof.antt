@@ -170,7 +170,8 @@ module _ (c : tie.After-last-set) where
       (λ i. known-of .shared-slice-known .given i .fits) (c .last-set .ensures)
 
 -- and the columns
-columns-at : (c : tie.After-right) → (c .before .left .result ≤ c .right .result) × (c .right .result < start-of (c .before .before .before) .args .shape .width)
+columns-at : (c : tie.After-right)
+    → (c .before .left .result ≤ c .right .result) × (c .right .result < start-of (c .before .before .before) .args .shape .width)
 columns-at c =
     let both = c .before .before .before in
     let s = start-of both in
@@ -226,4 +227,18 @@ returns-2 c =
 pub get-enclosing-rectangle-spec : {M : Type 1} → statement M
 get-enclosing-rectangle-spec =
     tie.close
-    (tie.spec first-set-requires returns div-top last-set-requires div-bottom left-requires right-requires cast-t10 sub-t11 add-t12 sub-t8 add-t13 cast-t14 returns-2)
+    (tie.spec
+    first-set-requires
+    returns
+    div-top
+    last-set-requires
+    div-bottom
+    left-requires
+    right-requires
+    cast-t10
+    sub-t11
+    add-t12
+    sub-t8
+    add-t13
+    cast-t14
+    returns-2)

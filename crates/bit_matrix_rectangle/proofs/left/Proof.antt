@@ -43,8 +43,8 @@ module _ (shape : Shape) (words : List ℕ) where
       white = λ c h. upto v 64 is (omega arith) (λ k l. zero-white v none k) c (omega arith);
     }
 
-    found : {v r : ℕ} → ImageAccepted shape words → ColumnWord shape words x v → x < shape .«row_words» → (v ≡ 0 → ⊥) → v < 2 ^ 64 → r ≡ x * 64 + trailingZeros 64 v
-        → r ≡ leastBelow (blackColumn (blackAt shape words) (shape .height)) (shape .width)
+    found : {v r : ℕ} → ImageAccepted shape words → ColumnWord shape words x v → x < shape .«row_words» → (v ≡ 0 → ⊥) → v < 2 ^ 64
+        → r ≡ x * 64 + trailingZeros 64 v → r ≡ leastBelow (blackColumn (blackAt shape words) (shape .height)) (shape .width)
     found {v} {r} ok is more some fits e =
         let first = lowest v some fits in
         let n : ℕ = trailingZeros 64 v in

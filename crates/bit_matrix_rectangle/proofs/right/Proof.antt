@@ -58,7 +58,8 @@ module _ (shape : Shape) (words : List ℕ) where
         ∙ greatest-is (blackColumn (blackAt shape words) (shape .height)) (shape .width) {r = (x - 1) * 64 + n} inside black
         (λ c h l. past v (suc n) is (λ k m. last .3 k (omega arith)) c (omega arith) (omega (arith, ok .limits .rows)))
 
-  at-end : {x : ℕ} → Passed shape words x → ImageAccepted shape words → x ≤ 0 → 0 ≡ greatestBelow (blackColumn (blackAt shape words) (shape .height)) (shape .width)
+  at-end : {x : ℕ} → Passed shape words x → ImageAccepted shape words → x ≤ 0
+      → 0 ≡ greatestBelow (blackColumn (blackAt shape words) (shape .height)) (shape .width)
   at-end passed ok none =
       greatest-none (blackColumn (blackAt shape words) (shape .height)) (shape .width) λ c h.
       passed .white c (omega arith) (omega (arith, ok .limits .rows))

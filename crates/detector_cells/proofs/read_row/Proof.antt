@@ -46,7 +46,8 @@ module _ {shape : Shape} (limits : Limits shape) (r : Rectangle) (within : Withi
   half-small y = mul-le-mul {n₁ = y % 2} {m₁ = r .width} {n₂ = 1} {m₂ = 2048} (omega arith) (omega (arith, within .columns, limits .width-most))
 
   -- where cell x of row y lies, as it was worked out
-  module _ (x y : ℕ) {l iy : ℕ} (column : l ≡ min ((x * r .width + r .width / 2 + y % 2 * r .width / 2) / 30) (r .width - 1)) (row : iy ≡ pixelRow y (r .top) (r .height)) where
+  module _ (x y : ℕ) {l iy : ℕ} (column : l ≡ min ((x * r .width + r .width / 2 + y % 2 * r .width / 2) / 30) (r .width - 1))
+      (row : iy ≡ pixelRow y (r .top) (r .height)) where
     cell-at : Inside shape (r .left + l) iy
     cell-at =
         let inside = cell-inside r within x y in
@@ -137,7 +138,8 @@ loop-again c =
     let x = turn .before .loop .x in
     let is = cell-is (s .pre .0) (s .args .rectangle) (s .pre .2) x (s .args .y) (c .before .before .least2 .ensures) (turn .before .before .least .ensures)
     (s .args .words .now) (c .get .ensures) in
-    (omega arith, more (λ i. cell (blackAt (s .args .shape) (s .args .words .now)) (s .args .rectangle) i (s .args .y)) x (omega arith) (turn .before .loop .inv .1) is)
+    let cells : ℕ → Bool = λ i. cell (blackAt (s .args .shape) (s .args .words .now)) (s .args .rectangle) i (s .args .y) in
+    (omega arith, more cells x (omega arith) (turn .before .loop .inv .1) is)
 
 returns : tie.Need-returns Inv-loop μ-loop
 returns c =
@@ -148,4 +150,26 @@ returns c =
 pub read-row-spec : {M : Type 1} → statement M
 read-row-spec =
     tie.close
-    (tie.spec Inv-loop μ-loop mul-least add-least add-least-2 sub-least least-requires mul-half loop-holds mul-least-2 add-least-3 add-least-4 sub-least-2 least-requires-2 add-ix get-requires cast-cells shl-cells add-x loop-less loop-again returns)
+    (tie.spec
+    Inv-loop
+    μ-loop
+    mul-least
+    add-least
+    add-least-2
+    sub-least
+    least-requires
+    mul-half
+    loop-holds
+    mul-least-2
+    add-least-3
+    add-least-4
+    sub-least-2
+    least-requires-2
+    add-ix
+    get-requires
+    cast-cells
+    shl-cells
+    add-x
+    loop-less
+    loop-again
+    returns)
