@@ -1,19 +1,18 @@
 -- The pixels of an accepted image by its words, and the first and last set bit of a word. Assumes nothing.
-use Prim.Native.Nat.{ℕ, zero, suc, _+_, _*_, _-_, _/_, _%_, _^_, _≤_, _<_}
+use Prim.Native.Nat.{ℕ, suc, _+_, _*_, _-_, _/_, _%_, _^_, _≤_, _<_}
 use native.Mathlib.Nat.{pow-suc}
 use native.Mathlib.Decide.{decLt}
 use native.Mathlib.Omega.{arith}
-use mathlib.Core.Bool.{true, false, not, cond, false≢true}
+use mathlib.Core.Bool.{true, false, not, false≢true}
 use mathlib.Core.List.{List}
 use mathlib.Core.Path.{_≡_, refl, sym, ap, ap₂, _∙_}
 use borrow.Author.Tests.{eq-eqb, ne-eqb, eqb-true, eqb-false, not-true, not-false}
-use lib.Bits.{bitOr}
 use lib.Count.{leadingZeros, trailingZeros, leading-top}
 use lib.Dec.{eqb}
 use lib.ListN.{getD}
 use lib.Pow.{high}
 use Rattle.reads.specs.Bits.{testBit, bitAt}
-use Rattle.reads.specs.BitsLaws.{or-bit}
+use Rattle.reads.specs.BitsLaws.{test-zero}
 use Rattle.bit_matrix.specs.declared.Shape.{Shape}
 use Rattle.bit_matrix.specs.Shape.{rowWords}
 use Rattle.bit_matrix.specs.PixelsLaws.{ran-pixel}
@@ -26,25 +25,9 @@ use Rattle.bit_matrix_rectangle.specs.RectangleClauses.{ImageAccepted, i
 
 -- ---- a word
 
--- a bit of two words put together
-pub test-or : (a b k : ℕ) → testBit (bitOr a b) k ≡ cond (testBit b k) true (testBit a k)
-unfolding testBit
-test-or a b k = ap (λ (n : ℕ). not (eqb n 0)) (or-bit a b k) ∙ go (a / 2 ^ k % 2) (b / 2 ^ k % 2) (omega arith) (omega arith)
-  where
-    go : (c d : ℕ) → c < 2 → d < 2 → not (eqb (bitOr c d) 0) ≡ cond (not (eqb d 0)) true (not (eqb c 0))
-    go zero zero l m = refl
-    go zero (suc zero) l m = refl
-    go zero (suc (suc d)) l m = absurd (omega arith)
-    go (suc zero) zero l m = refl
-    go (suc zero) (suc zero) l m = refl
-    go (suc zero) (suc (suc d)) l m = absurd (omega arith)
-    go (suc (suc c)) d l m = absurd (omega arith)
-
-pub test-none : (k : ℕ) → testBit 0 k ≡ false
-test-none k = test-past 0 (omega arith) (omega arith)
-
+-- a word that is 0 has no bit
 pub zero-white : (v : ℕ) → v ≡ 0 → (k : ℕ) → testBit v k ≡ false
-zero-white v none k = ap (λ (n : ℕ). testBit n k) none ∙ test-none k
+zero-white v none k = ap (λ (n : ℕ). testBit n k) none ∙ test-zero k
 
 module _ (v : ℕ) (some : v ≡ 0 → ⊥) (fits : v < 2 ^ 64) where
   -- the last set bit

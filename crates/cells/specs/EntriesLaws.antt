@@ -1,5 +1,5 @@
--- A call that is not refused reads the cells of its image, so that by `cells-agree` two such calls, each of a file or of words, agree where their images
--- have one shape and the same pixels. Assumes nothing.
+-- A call that is not refused reads the cells of its image. So by `cells-agree` two such calls that are lent the same for the cells, each of a file or of
+-- words, agree where their images have one shape and the same pixels; with answer 0 whatever was lent, by `lent-without-part`. Assumes nothing.
 use Prim.Native.Nat.{ℕ}
 use mathlib.Core.List.{List}
 use mathlib.Core.Path.{_≡_, sym, ap}

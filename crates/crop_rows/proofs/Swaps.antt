@@ -6,28 +6,14 @@ use native.Mathlib.Omega.{arith}
 use mathlib.Core.Bool.{Bool, true, false, not, cond, _||_, _&&_}
 use mathlib.Core.Path.{_≡_, refl, sym, ap, ap₂, _∙_}
 use borrow.Author.Tests.{lt-ltb, le-ltb}
-use lib.Bits.{bitAnd, bitOr, and-shr, and-mod, or-shr, or-mod}
+use lib.Bits.{bitAnd, bitOr, and-shr, and-mod}
 use lib.Dec.{eqb, ltb}
 use lib.Pow.{field, mod-mod-pow, shl-shr, shr-shr}
 use Rattle.reads.specs.Bits.{testBit}
+use Rattle.reads.specs.BitsLaws.{test-or}
 use Rattle.crop_padding.specs.NumberLaws.{low-clear, test-shr}
 
 -- ---- a bit of the code's operations
-
-or-digit : (x y : ℕ) → x < 2 → y < 2 → not (eqb (bitOr x y) 0) ≡ (not (eqb x 0) || not (eqb y 0))
-or-digit zero zero h l = refl
-or-digit zero (suc zero) h l = refl
-or-digit (suc zero) zero h l = refl
-or-digit (suc zero) (suc zero) h l = refl
-or-digit (suc (suc x)) y h l = absurd (omega arith)
-or-digit zero (suc (suc y)) h l = absurd (omega arith)
-or-digit (suc zero) (suc (suc y)) h l = absurd (omega arith)
-
-test-or : (a b k : ℕ) → testBit (bitOr a b) k ≡ (testBit a k || testBit b k)
-unfolding testBit
-test-or a b k =
-    ap (λ (n : ℕ). not (eqb n 0)) (ap (λ (n : ℕ). n % 2) (or-shr a b k) ∙ or-mod (a / 2 ^ k) (b / 2 ^ k) 1)
-    ∙ or-digit (a / 2 ^ k % 2) (b / 2 ^ k % 2) (omega arith) (omega arith)
 
 and-digit : (x y : ℕ) → x < 2 → y < 2 → not (eqb (bitAnd x y) 0) ≡ (not (eqb x 0) && not (eqb y 0))
 and-digit zero zero h l = refl

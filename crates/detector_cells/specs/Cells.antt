@@ -9,7 +9,7 @@ use Rattle.detector_points.specs.Orientation.{matrixWidth, matrixHeight, pixelC
 use Rattle.bit_matrix_rectangle.specs.declared.Rectangle.{Rectangle}
 use Rattle.bit_matrix_rectangle.specs.Rectangle.{blackAt, ifBlack, enclosingRectangle}
 
--- cell x of row y, over a rectangle: its first row is the top one
+-- cell x of row y, over a rectangle
 abbrev pub cell : (ℕ → ℕ → Bool) → Rectangle → ℕ → ℕ → Bool
 cell black r x y = black (pixelColumn x y (r .left) (r .width)) (pixelRow y (r .top) (r .height))
 

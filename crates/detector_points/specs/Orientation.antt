@@ -1,4 +1,5 @@
--- The points that are tested for a turn, in cells of the symbol's 30 columns and 33 rows, and as pixels. Definitions only. Assumes nothing.
+-- The pixel of a cell of the symbol's 30 columns and 33 rows; and the points that are tested for a turn, as cells and as pixels. Definitions only.
+-- Assumes nothing.
 use Prim.Native.Nat.{ℕ, _+_, _-_, _*_, _/_, _%_, min}
 use mathlib.Core.List.{List, [], _∷_, map}
 use Rattle.rxing_result_point.specs.declared.PointU.{PointU}

@@ -3,7 +3,7 @@ use Prim.Native.Nat.{ℕ, zero, suc, _+_, _/_, _%_, _^_, _-_, _≤_, _<_}
 use native.Mathlib.Nat.{pow-suc, div-eq-of-lt, div-self, mul-mod-left, zero-div, suc-add}
 use native.Mathlib.Decide.{ℕ-discrete, decLt}
 use native.Mathlib.Omega.{arith}
-use mathlib.Core.Bool.{Bool, true, false, not, false≢true}
+use mathlib.Core.Bool.{Bool, true, false, not, _||_, false≢true}
 use mathlib.Core.Logic.{_⊎_, inl, inr, ⊎-elim, _↔_, _≢_}
 use mathlib.Core.Path.{_≡_, refl, sym, ap, _∙_}
 use mathlib.Core.List.{List, [], _∷_, _++_, List·Memᴰ, List·Memᴰ·head, List·Memᴰ·tail, List·Memᴰ·not-nil, List·Memᴰ·cases-cons}
@@ -21,8 +21,21 @@ digit-low true = omega arith
 digit-low false = omega arith
 
 -- a bit of a union
-pub or-bit : (w v j : ℕ) → bitOr w v / 2 ^ j % 2 ≡ bitOr (w / 2 ^ j % 2) (v / 2 ^ j % 2)
+or-bit : (w v j : ℕ) → bitOr w v / 2 ^ j % 2 ≡ bitOr (w / 2 ^ j % 2) (v / 2 ^ j % 2)
 or-bit w v j = ap (λ (n : ℕ). n % 2) (or-shr w v j) ∙ or-mod (w / 2 ^ j) (v / 2 ^ j) 1
+
+or-digit : (d e : ℕ) → d < 2 → e < 2 → not (eqb (bitOr d e) 0) ≡ (not (eqb d 0) || not (eqb e 0))
+or-digit zero zero h l = refl
+or-digit zero (suc zero) h l = refl
+or-digit (suc zero) zero h l = refl
+or-digit (suc zero) (suc zero) h l = refl
+or-digit (suc (suc d)) e h l = absurd (omega arith)
+or-digit zero (suc (suc e)) h l = absurd (omega arith)
+or-digit (suc zero) (suc (suc e)) h l = absurd (omega arith)
+
+pub test-or : (w v j : ℕ) → testBit (bitOr w v) j ≡ (testBit w j || testBit v j)
+unfolding testBit
+test-or w v j = ap (λ (n : ℕ). not (eqb n 0)) (or-bit w v j) ∙ or-digit (w / 2 ^ j % 2) (v / 2 ^ j % 2) (omega arith) (omega arith)
 
 -- a bit with 1 is 1
 or-one : (d : ℕ) → d < 2 → bitOr d 1 ≡ 1
@@ -63,7 +76,7 @@ test-set-other w b j other =
     ap (λ (n : ℕ). not (eqb n 0))
     (or-bit w (2 ^ b) j ∙ ap (bitOr (w / 2 ^ j % 2)) (pow-bit-other b j other) ∙ or-zero-r (w / 2 ^ j % 2))
 
-test-zero : (j : ℕ) → testBit 0 j ≡ false
+pub test-zero : (j : ℕ) → testBit 0 j ≡ false
 unfolding testBit
 test-zero j = ap (λ (n : ℕ). not (eqb (n % 2) 0)) (zero-div (2 ^ j))
 

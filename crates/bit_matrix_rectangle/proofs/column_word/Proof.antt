@@ -2,20 +2,21 @@
 use Prim.Native.Nat.{ℕ, _+_, _*_, _-_, _≤_, _<_}
 use native.Mathlib.Numerals.{add-one}
 use native.Mathlib.Omega.{arith}
-use mathlib.Core.Bool.{Bool, true, cond}
+use mathlib.Core.Bool.{Bool, true, false, cond, _||_}
 use mathlib.Core.List.{List}
-use mathlib.Core.Path.{_≡_, sym, ap₂, _∙_}
+use mathlib.Core.Path.{_≡_, refl, sym, ap₂, _∙_}
 use borrow.Author.Needs.{needs}
 use lib.Arith.{digits-lt}
 use lib.Bits.{bitOr}
 use lib.ListN.{length, getD}
 use Rattle.reads.specs.Bits.{testBit}
+use Rattle.reads.specs.BitsLaws.{test-or, test-zero}
 use Rattle.bit_matrix.specs.declared.Shape.{Shape}
 use Rattle.crop_padding.specs.Below.{anyBelow}
 use Rattle.crop_padding.specs.AnyLaws.{any-until, none-below}
 use Rattle.bit_matrix_rectangle.specs.Rectangle.{blackAt, blackColumn}
 use Rattle.bit_matrix_rectangle.specs.RectangleClauses.{ImageAccepted, Rows, ColumnWord}
-use Rattle.bit_matrix_rectangle.proofs.Words.{test-or, test-none, black-word}
+use Rattle.bit_matrix_rectangle.proofs.Words.{black-word}
 use Rattle.bit_matrix_rectangle.proofs.column_word.Statement.{statement}
 use Rattle.bit_matrix_rectangle.proofs.column_word.Tie as tie
 
@@ -32,7 +33,7 @@ module _ (shape : Shape) (words : List ℕ) (x : ℕ) (ok : ImageAccepted shape 
     begins : Joined shape words x bottom 0 top
     begins = record {
       most = omega (arith, rows .order);
-      bits = λ k h. test-none k ∙ sym (none-below (λ y. blackAt shape words (x * 64 + k) y) top λ y above. rows .above (x * 64 + k) y (omega arith) above);
+      bits = λ k h. test-zero k ∙ sym (none-below (λ y. blackAt shape words (x * 64 + k) y) top λ y above. rows .above (x * 64 + k) y (omega arith) above);
     }
 
     at-end : {word y : ℕ} → Joined shape words x bottom word y → bottom < y → ColumnWord shape words x word
@@ -45,6 +46,13 @@ module _ (shape : Shape) (words : List ℕ) (x : ℕ) (ok : ImageAccepted shape 
               rows .below (x * 64 + k) j (omega arith) (omega arith) row;
         }
 
+  -- the last row comes first in the definition
+  turned : (b c : Bool) → (b || c) ≡ cond c true b
+  turned true true = refl
+  turned true false = refl
+  turned false true = refl
+  turned false false = refl
+
   onward : {bottom word : ℕ} (y : ℕ) → Joined shape words x bottom word y → y ≤ bottom
       → Joined shape words x bottom (bitOr word (getD words (y * shape .«row_words» + x) 0)) (y + 1)
   unfolding anyBelow
@@ -53,7 +61,7 @@ module _ (shape : Shape) (words : List ℕ) (x : ℕ) (ok : ImageAccepted shape 
     bits = λ k h.
         let v : ℕ = getD words (y * shape .«row_words» + x) 0 in
         rw add-one
-        (test-or word v k ∙ ap₂ (λ (b c : Bool). cond b true c) (sym (black-word ok x k y h)) (joined .bits k h));
+        (test-or word v k ∙ turned (testBit word k) (testBit v k) ∙ ap₂ (λ (b c : Bool). cond b true c) (sym (black-word ok x k y h)) (joined .bits k h));
   }
 
 abbrev Inv-loop : tie.InvT-loop

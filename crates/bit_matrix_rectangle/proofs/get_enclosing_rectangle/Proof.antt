@@ -10,6 +10,7 @@ use borrow.Author.Needs.{needs}
 use lib.Arith.{digits-lt}
 use lib.ListN.{length, getD}
 use Rattle.reads.specs.Bits.{testBit}
+use Rattle.reads.specs.BitsLaws.{test-zero}
 use Rattle.bit_matrix.specs.declared.Shape.{Shape}
 use Rattle.crop_padding.specs.Below.{anyBelow}
 use Rattle.crop_padding.specs.AnyLaws.{any-found, any-witness, none-below}
@@ -19,7 +20,7 @@ use Rattle.bit_matrix_rectangle.specs.RectangleClauses.{ImageAccepted, R
 use Rattle.bit_matrix_rectangle.specs.ExtremesLaws.{least-before, greatest-after, greatest-lt}
 use Rattle.bit_matrix_rectangle.specs.RectangleLaws.{pixel-row, pixel-column}
 use Rattle.bit_matrix_rectangle.proofs.Extremes.{least-is, least-here, least-most, greatest-is, greatest-here, least-greatest}
-use Rattle.bit_matrix_rectangle.proofs.Words.{highest, test-none, black-word, column-inside, set-some, clear-none}
+use Rattle.bit_matrix_rectangle.proofs.Words.{highest, black-word, column-inside, set-some, clear-none}
 use Rattle.bit_matrix_rectangle.proofs.get_enclosing_rectangle.Statement.{statement}
 use Rattle.bit_matrix_rectangle.proofs.get_enclosing_rectangle.Tie as tie
 
@@ -57,7 +58,7 @@ module _ (shape : Shape) (words : List ℕ) (ok : ImageAccepted shape words) whe
   pixel-white y clear x column =
       let place : x / 64 * 64 + x % 64 ≡ x = omega arith in
       ap (λ (n : ℕ). black n y) (sym place) ∙ black-word ok (x / 64) (x % 64) y (omega arith)
-      ∙ ap (λ (n : ℕ). testBit n (x % 64)) (clear (x / 64) (omega arith)) ∙ test-none (x % 64)
+      ∙ ap (λ (n : ℕ). testBit n (x % 64)) (clear (x / 64) (omega arith)) ∙ test-zero (x % 64)
 
   row-white : (y : ℕ) → ((q : ℕ) → q < shape .«row_words» → getD words (y * shape .«row_words» + q) 0 ≡ 0) → blackRow black (shape .width) y ≡ false
   row-white y clear = none-below (λ x. black x y) (shape .width) λ x column. pixel-white y clear x (omega (arith, ok .limits .rows))
