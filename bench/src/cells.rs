@@ -18,9 +18,12 @@ fn left(read: impl FnOnce(&mut [u32]) -> u32) -> (u32, [u32; CELL_ROWS]) {
     (read(&mut cells), cells)
 }
 
-/// The same by the function of the source that is timed.
+/// The same by the function of the source that is timed, its cells put into words.
 fn timed<S: Source>(crop: &Crop) -> (u32, [u32; CELL_ROWS]) {
-    left(|cells| S::new(crop).cells(cells))
+    let image = S::new(crop);
+    let given = left(|cells| image.cells(cells));
+    assert_eq!(image.read_bits(), given.0 == 0);
+    given
 }
 
 /// Stops unless all have the same cells of a crop. Gives their answer.
@@ -45,13 +48,12 @@ fn ours(crops: &[Crop]) -> impl FnMut() {
     }
 }
 
-/// The same by the source.
+/// The same by the source, as its bit matrix.
 fn theirs<S: Source>(crops: &[Crop]) -> impl FnMut() {
     let images: Vec<S> = prepared(crops);
-    let mut cells = [0; CELL_ROWS];
     move || {
         for image in &images {
-            image.cells(&mut cells);
+            image.read_bits();
         }
     }
 }

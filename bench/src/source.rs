@@ -12,6 +12,9 @@ pub trait Source {
 
     fn cells(&self, cells: &mut [u32]) -> u32;
 
+    /// The function of the source behind `cells`; whether it gives some.
+    fn read_bits(&self) -> bool;
+
     fn sweep(&self, capacity: usize) -> u32;
 
     /// Candidates prepared, to be kept and ranked by a call.
@@ -37,6 +40,10 @@ macro_rules! source {
 
             fn cells(&self, cells: &mut [u32]) -> u32 {
                 self.cells(cells)
+            }
+
+            fn read_bits(&self) -> bool {
+                self.read_bits()
             }
 
             fn sweep(&self, capacity: usize) -> u32 {

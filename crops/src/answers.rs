@@ -120,6 +120,7 @@ mod tests {
             assert_eq!(unknown, format!("unknown number of a check: {number}"));
         }
     }
+
     #[test]
     fn cells_have_an_answer_of_their_own_and_none_of_a_search() {
         assert_eq!(cells_meaning(0), Ok(READ));

@@ -13,6 +13,10 @@ int main(void) {
     size_t length = fread(file, 1, MAXICODE_LONGEST, stdin);
     uint32_t answer = maxicode_check(file, length);
 
+    if (ferror(stdin)) {
+        fprintf(stderr, "standard input cannot be read\n");
+        return 1;
+    }
     if (answer == 0) {
         /* The words must have exactly the image's length. */
         size_t size = maxicode_image_words(maxicode_file_width(file), maxicode_file_height(file));

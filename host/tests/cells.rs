@@ -50,6 +50,17 @@ fn compare(file: &[u8], (words, cells): (usize, usize), answers: &mut [usize; 11
     assert_eq!(ours, theirs);
 }
 
+/// An image that is all white, and with one to four black pixels.
+fn compare_nearly_white(width: u32, height: u32, answers: &mut [usize; 11]) {
+    let mut image = vec![0; crops::image_words(width, height)];
+    let lent = (image.len(), CELL_ROWS);
+    compare(&crops::pack(&image, width, height), lent, answers);
+    for (x, y) in [(0, 0), (width - 1, height - 1), (5, 20), (width - 1, 0)] {
+        crops::set_pixel(&mut image, width, x, y);
+        compare(&crops::pack(&image, width, height), lent, answers);
+    }
+}
+
 #[test]
 fn the_judges_cells() {
     let mut answers = [0; 11];
@@ -69,23 +80,8 @@ fn the_judges_cells() {
         let words = crops::words_of(&damaged);
         compare(&damaged, (words, CELL_ROWS), &mut answers);
     }
-    // Images that are all white, and with one to four black pixels.
     for (width, height) in [(33, 33), (64, 40), (65, 100), (200, 33)] {
-        let mut image = vec![0; crops::image_words(width, height)];
-        let words = image.len();
-        compare(
-            &crops::pack(&image, width, height),
-            (words, CELL_ROWS),
-            &mut answers,
-        );
-        for (x, y) in [(0, 0), (width - 1, height - 1), (5, 20), (width - 1, 0)] {
-            crops::set_pixel(&mut image, width, x, y);
-            compare(
-                &crops::pack(&image, width, height),
-                (words, CELL_ROWS),
-                &mut answers,
-            );
-        }
+        compare_nearly_white(width, height, &mut answers);
     }
     for answer in [0, 1, 2, 3, 4, 5, 6, 10] {
         assert!(answers[answer] > 0, "no crop has {answer}: {answers:?}");

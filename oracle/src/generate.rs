@@ -20,6 +20,9 @@ pub use rectangles::{CellCoverage, rectangle_rows};
 use canvas::Canvas;
 use families::Made;
 
+/// Parts the numbers of a seed's calls for cells from those of its crop and its search.
+pub const CELLS_SALT: u64 = 0x63_656c_6c73;
+
 /// An image, and the length in u32 words of a record buffer to search it with.
 #[derive(Clone, Debug, PartialEq, Eq)]
 pub struct Crop {

@@ -2,7 +2,7 @@
 
 use crops::{CELL_ROWS, GREATEST_SIDE, LEAST_SIDE, MOST_WORDS, WORD_BITS, row_bytes, row_words};
 use oracle::RECORD_WORDS;
-use oracle::generate::Random;
+use oracle::generate::{CELLS_SALT, Random};
 
 use crate::call::{Asked, Call, Input};
 
@@ -34,9 +34,6 @@ const EYES: [&[(usize, usize)]; 3] = [
     &[(12, 12), (12, 24), (20, 12)],
     &[(13, 6), (13, 18), (12, 26)],
 ];
-
-/// Parts the numbers of a seed's cells from those of its search.
-const CELLS_SALT: u64 = 0x63_656c_6c73;
 
 /// Names for the number of conditions that were spoilt.
 pub const SPOILT: [&str; 8] = ["0", "1", "2", "3", "4", "5", "6", "7"];

@@ -23,7 +23,7 @@ Reads the cells of an upright symbol that fills its crop: 33 rows of 30 cells, s
 pixels. Prints a line for each row, the first row first: # for a black cell, . for a white one, with a blank between neighbours. Odd
 rows begin with a blank, since they lie half a cell further to the right. Counted from 0, column C is character 2 C in even rows,
 2 C + 1 in odd ones.
-Cut off white rows above the symbol: with too many of them rows of cells are read too high up, and standard error has a line about it.
+Cut off white rows above the symbol: with too many of them rows of cells are read too high up, which standard error and a picture tell.
 With more than one file, or a folder or a list, a line `FILE:` comes before the rows of each.
 
 --hex    prints each row as a word of 8 hexadecimal digits: column C is bit C, from the least significant on
@@ -81,11 +81,11 @@ fn draw(arguments: Arguments) -> Result<bool, Problem> {
     let (path, options) = arguments.one()?;
     let failed = |reason: String| Problem::Failed(of_file(&path, &reason));
     let read = read(&files::read_one(&path)?).map_err(|unknown| failed(unknown.to_string()))?;
-    let Cells { rows, note } = read.map_err(failed)?;
+    let cells = read.map_err(failed)?;
     let name = Path::new(&path).display().to_string();
-    let picture = picture::of(&name, &rows);
+    let picture = picture::of(&name, &cells);
     deliver(picture.as_bytes(), options.output.as_deref())?;
-    if let Some(note) = note {
+    if let Some(note) = cells.note {
         complain(&of_file(&path, &note));
     }
     Ok(true)

@@ -142,7 +142,7 @@ fn folders_and_lists() {
 fn white_above_a_symbol() {
     let folder = Folder::new("cells-high");
     let (_, rows) = judged_cells(&lone());
-    for (left, top, held) in [(0, 0, 0), (40, 2, 0), (0, 3, 1), (7, 20, 5), (0, 133, 33)] {
+    for (left, top, held) in [(0, 0, 0), (40, 2, 0), (0, 3, 1), (7, 20, 5), (0, 131, 33)] {
         let crop = moved(&lone(), left, top);
         folder.write("moved", &crop);
         let ran = folder.bullseye(&["cells", "moved"]);
@@ -162,6 +162,8 @@ the first black row is {top}, not 0; cut the crop at the top\n"
         assert_eq!(ran.err, note);
         let picture = folder.bullseye(&["cells", "--svg", "moved"]);
         assert_eq!(hexagons(&picture.text()), read);
+        let told = picture.text().matches("read too high up").count();
+        assert_eq!(told, usize::from(held > 0), "{top}");
         assert_eq!((picture.code, picture.err), (Some(0), note));
     }
 }

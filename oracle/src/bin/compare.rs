@@ -16,7 +16,7 @@ fn main() {
 
 #[cfg(source)]
 mod both {
-    use oracle::generate::{self, CellCoverage, Coverage, Crop, Random};
+    use oracle::generate::{self, CELLS_SALT, CellCoverage, Coverage, Crop, Random};
     use oracle::harness::steps::{Image, enclosing_rectangle};
     use oracle::second::Rectangle;
     use oracle::vectors::Lent;
@@ -94,9 +94,6 @@ mod both {
         assert!(a == b, "seed {seed}: buffers after a damaged file");
         coverage.add(report.answer, report.found, report.kept, &a.records);
     }
-
-    /// Parts the numbers of the lent buffers from those of the crop.
-    const CELLS_SALT: u64 = 0x63_656c_6c73;
 
     /// Words to unpack into and cells, lent with any first content.
     #[derive(Clone, PartialEq)]

@@ -9,7 +9,7 @@ Prints the answer and counts, then one line for each kept record.
 --help   prints this";
 
 /// What is printed of a crop.
-pub enum Asked {
+enum Asked {
     Search,
     FullSearch,
     Cells,

@@ -1,11 +1,13 @@
 // The source's steps one by one, on plain values. A step that reads an image also gives the marks.
 
+use std::hint::black_box;
+
 use super::super::super::common::BitMatrix;
 use super::super::super::{Point, Record, Report, point};
 use super::super::Trace;
 use super::cells::cells_of;
 use super::search::{boxed, search_image};
-use super::{Circle, detect, find_concentric_circles};
+use super::{Circle, detect, find_concentric_circles, read_bits};
 
 /// An unpacked image.
 #[derive(Clone, Copy, Debug)]
@@ -80,6 +82,12 @@ impl Prepared {
     #[inline(never)]
     pub fn cells(&self, cells: &mut [u32]) -> u32 {
         cells_of(&self.0, cells)
+    }
+
+    /// The source's `read_bits` by itself; whether it gives cells.
+    #[inline(never)]
+    pub fn read_bits(&self) -> bool {
+        black_box(read_bits(&self.0)).is_ok()
     }
 
     /// How many candidates the sweep finds.

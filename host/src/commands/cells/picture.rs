@@ -1,5 +1,5 @@
 //! Cells as a picture: hexagons as they lie in a symbol, with the numbers of rows and columns.
-use super::is_black;
+use super::{Cells, is_black};
 use crate::svg::{Bounds, FONT, escaped};
 use crops::{CELL_COLUMNS, CELL_ROWS};
 
@@ -13,8 +13,8 @@ const ROW: f64 = 0.8660254;
 const HEXAGON: &str = "l.5 .2887v.5774l-.5 .2887l-.5 -.2887v-.5774z";
 const POINT: f64 = 0.57735;
 
-/// The picture of a crop's cells, under its name.
-pub fn of(name: &str, rows: &[u32; CELL_ROWS]) -> String {
+/// The picture of a crop's cells, under its name, with a note on them.
+pub fn of(name: &str, Cells { rows, note }: &Cells) -> String {
     let mut bounds = Bounds {
         left: -1.5,
         top: -1.5,
@@ -24,11 +24,11 @@ pub fn of(name: &str, rows: &[u32; CELL_ROWS]) -> String {
     let black = |column, row: usize| is_black(rows[row], column);
     let cells = hexagons("black", "#000", black)
         + &hexagons("white", "#fff", |column, row| !black(column, row));
-    let lines = [
-        format!("{name}: {CELL_ROWS} rows of {CELL_COLUMNS} cells"),
-        "columns are numbered above even rows; odd rows lie half a cell to the right".into(),
-    ];
-    let text = bounds.legend(&lines.map(|line| ("#000", line)), ZOOM);
+    let caption = format!("{name}: {CELL_ROWS} rows of {CELL_COLUMNS} cells");
+    let numbering = "columns are numbered above even rows; odd rows lie half a cell to the right";
+    let mut legend = vec![("#000", caption), ("#000", numbering.into())];
+    legend.extend(note.iter().map(|note| ("#c00", note.clone())));
+    let text = bounds.legend(&legend, ZOOM);
     let start = bounds.start(ZOOM, FONT / ZOOM);
     format!(
         "{start}<title>{}</title>\n<g stroke=\"#bbb\" stroke-width=\"0.04\">\n{cells}</g>\n\
