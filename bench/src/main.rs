@@ -6,8 +6,8 @@
 //! and fills the records. The logged Rust clears its log, marks every bit that it reads there, and counts the marks, as a
 //! search that must report them has to; the Rust without its log does none of this. All buffers are made beforehand.
 //!
-//! Of cells the product is `maxicode_cells_words`, which checks image and buffer. The source is its `read_bits` on a prepared image; the
-//! bit matrix that it gives is put into 33 words only to be compared. No marks are asked for: the logged Rust sets those of the pixels
+//! Of cells the product is `maxicode_cells_words`, which checks image and buffer. The source is its `read_bits` on a prepared image, which
+//! makes a bit matrix of its own; that is put into 33 words only to be compared. No marks are asked for: the logged Rust sets those of the pixels
 //! that it samples, and neither clears nor counts them.
 //!
 //! In each round all run once, one after the other. A time is the median over the rounds, a ratio the median of the

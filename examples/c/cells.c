@@ -11,12 +11,11 @@ int main(void) {
     static uint64_t words[MAXICODE_MOST_WORDS];
     uint32_t cells[MAXICODE_CELL_ROWS];
     size_t length = fread(file, 1, MAXICODE_LONGEST, stdin);
-    uint32_t answer = maxicode_check(file, length);
-
     if (ferror(stdin)) {
         fprintf(stderr, "standard input cannot be read\n");
         return 1;
     }
+    uint32_t answer = maxicode_check(file, length);
     if (answer == 0) {
         /* The words must have exactly the image's length. */
         size_t size = maxicode_image_words(maxicode_file_width(file), maxicode_file_height(file));

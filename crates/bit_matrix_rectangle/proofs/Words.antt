@@ -25,7 +25,7 @@ use Rattle.bit_matrix_rectangle.specs.RectangleClauses.{ImageAccepted, i
 
 -- ---- a word
 
--- a word that is 0 has no bit
+-- a word that is 0 has no set bit
 pub zero-white : (v : ℕ) → v ≡ 0 → (k : ℕ) → testBit v k ≡ false
 zero-white v none k = ap (λ (n : ℕ). testBit n k) none ∙ test-zero k
 

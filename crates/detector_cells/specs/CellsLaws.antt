@@ -1,5 +1,5 @@
--- What holds of the cells: each is read inside the image, a row of them has 30 bits, the answer is 10 exactly when no pixel is black, and else answer and
--- cells are a function of the pixels alone. Assumes nothing.
+-- What holds of the cells: each is read inside the image, a row of them has 30 bits, the answer is 10 exactly when no pixel is black, and with 0 they are
+-- a function of the pixels alone. Assumes nothing.
 use Prim.Native.Nat.{ℕ, _^_, _<_}
 use native.Mathlib.Omega.{arith}
 use mathlib.Core.Bool.{Bool, false}
@@ -23,9 +23,9 @@ pub cell-inside : {w h : ℕ} (r : Rectangle) → Within w h r → (x y : ℕ) �
 cell-inside r within x y = (omega (arith, within), omega (arith, within))
 
 -- so every cell that is read
-pub cells-inside : (black : ℕ → ℕ → Bool) (w h : ℕ) {r : Rectangle} → Black r ≡ enclosingRectangle black w h → (x y : ℕ)
+pub read-inside : (black : ℕ → ℕ → Bool) (w h : ℕ) {r : Rectangle} → Black r ≡ enclosingRectangle black w h → (x y : ℕ)
     → (pixelColumn x y (r .left) (r .width) < w) × (pixelRow y (r .top) (r .height) < h)
-cells-inside black w h {r} is = cell-inside r (rectangle-within black w h is)
+read-inside black w h {r} is = cell-inside r (rectangle-within black w h is)
 
 -- bits 30 and 31 are zero
 pub cells-low : (black : ℕ → ℕ → Bool) (r : Rectangle) (y : ℕ) → cellWord black r y < 2 ^ 30
@@ -51,11 +51,14 @@ module _ (shape : Shape) (words : List ℕ) where
       go Blank is ten = is
       go (Black r) is ten = absurd (omega arith)
 
-  -- where a pixel is black, what was lent has no part in what is read
-  pub lent-without-part : {r : Rectangle} → Black r ≡ enclosingRectangle (blackAt shape words) (shape .width) (shape .height) → (cells lent : List ℕ)
-      → readBits shape words cells ≡ readBits shape words lent
+  -- with answer 0 what was lent has no part in what is read
+  pub lent-without-part : (cells lent : List ℕ) → readBits shape words cells .answer ≡ 0 → readBits shape words cells ≡ readBits shape words lent
   unfolding readBits
-  lent-without-part is cells lent = ap (readIn shape words cells) (sym is) ∙ ap (readIn shape words lent) is
+  lent-without-part cells lent read = go (enclosingOf shape words) read
+    where
+      go : (e : Enclosing) → readIn shape words cells e .answer ≡ 0 → readIn shape words cells e ≡ readIn shape words lent e
+      go Blank none = absurd (omega arith)
+      go (Black r) some = refl
 
 -- two images of one shape that agree at every pixel, and the same lent for the cells: the same answer and the same cells
 module _ (shape : Shape) (words other : List ℕ)

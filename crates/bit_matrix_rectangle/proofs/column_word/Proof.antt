@@ -20,6 +20,13 @@ use Rattle.bit_matrix_rectangle.proofs.Words.{black-word}
 use Rattle.bit_matrix_rectangle.proofs.column_word.Statement.{statement}
 use Rattle.bit_matrix_rectangle.proofs.column_word.Tie as tie
 
+-- the definition takes the last row first
+or-last-first : (b c : Bool) → (b || c) ≡ cond c true b
+or-last-first true true = refl
+or-last-first true false = refl
+or-last-first false true = refl
+or-last-first false false = refl
+
 -- the rows before y are put together
 record Joined (shape : Shape) (words : List ℕ) (x bottom word y : ℕ) : Type 0 where
   most : y ≤ bottom + 1
@@ -46,13 +53,6 @@ module _ (shape : Shape) (words : List ℕ) (x : ℕ) (ok : ImageAccepted shape 
               rows .below (x * 64 + k) j (omega arith) (omega arith) row;
         }
 
-  -- the last row comes first in the definition
-  turned : (b c : Bool) → (b || c) ≡ cond c true b
-  turned true true = refl
-  turned true false = refl
-  turned false true = refl
-  turned false false = refl
-
   onward : {bottom word : ℕ} (y : ℕ) → Joined shape words x bottom word y → y ≤ bottom
       → Joined shape words x bottom (bitOr word (getD words (y * shape .«row_words» + x) 0)) (y + 1)
   unfolding anyBelow
@@ -61,7 +61,7 @@ module _ (shape : Shape) (words : List ℕ) (x : ℕ) (ok : ImageAccepted shape 
     bits = λ k h.
         let v : ℕ = getD words (y * shape .«row_words» + x) 0 in
         rw add-one
-        (test-or word v k ∙ turned (testBit word k) (testBit v k) ∙ ap₂ (λ (b c : Bool). cond b true c) (sym (black-word ok x k y h)) (joined .bits k h));
+        (test-or word v k ∙ or-last-first (testBit word k) (testBit v k) ∙ ap₂ (λ (b c : Bool). cond b true c) (sym (black-word ok x k y h)) (joined .bits k h));
   }
 
 abbrev Inv-loop : tie.InvT-loop

@@ -13,7 +13,7 @@ const ROW: f64 = 0.8660254;
 const HEXAGON: &str = "l.5 .2887v.5774l-.5 .2887l-.5 -.2887v-.5774z";
 const POINT: f64 = 0.57735;
 
-/// The picture of a crop's cells, under its name, with a note on them.
+/// The picture of a crop's cells, with its name and, if there is one, the note on them below.
 pub fn of(name: &str, Cells { rows, note }: &Cells) -> String {
     let mut bounds = Bounds {
         left: -1.5,
