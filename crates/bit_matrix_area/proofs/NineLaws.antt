@@ -1,5 +1,6 @@
 -- An area taken by whole words is the area pixel by pixel: nine bits row by row as column by column. Assumes nothing.
 use Prim.Native.Nat.{ℕ, zero, suc, _+_, _-_, _*_, _≤_, _<_}
+use mathlib.Core.Bool.{Bool}
 use mathlib.Core.List.{List, [], _∷_, _++_, map, flatMap}
 use mathlib.Core.Path.{_≡_, refl, sym, ap, ap₂, _∙_}
 use native.Mathlib.Nat.{add-assoc, add-zero}
@@ -17,7 +18,7 @@ use Rattle.bit_matrix.specs.Shape.{size}
 use Rattle.bit_matrix.specs.ShapeClauses as shapes
 use Rattle.bit_matrix.specs.Pixels.{tryGet}
 use Rattle.bit_matrix.specs.PixelsLaws.{ran-pixel}
-use Rattle.bit_matrix_nine.specs.AreaWords.{setBits, CountedBits, threeOf, nineOf, InWords}
+use Rattle.bit_matrix_nine.specs.AreaWords.{setBits, HalfBlack, threeOf, nineOf, InWords}
 use Rattle.bit_matrix_area.specs.Area.{Cell, countBlack, tryGetArea}
 use Rattle.bit_matrix.specs.declared.Sample.the-variants.{Inside}
 use Rattle.bit_matrix_area.specs.declared.Count.the-variants as count
@@ -92,15 +93,16 @@ module _ (words : List ℕ) (shape : Shape) (full : length words ≡ size shape)
   within-columns (suc m) x y n columns rows = within-column x y n _ (omega arith) rows (within-columns m (x + 1) y n (omega arith) rows)
 
   -- an area that lies in words
-  pub area-in-words : {marks after : List ℕ} {x y n : ℕ} → InWords shape x y → length marks ≡ length words
-      → CountedBits words marks (nineOf shape (x - 1) (y - 1)) n after
-      → Ran (tryGetArea shape x y) words marks (Inside (leb 9 (2 * n))) after
+  pub area-in-words : {marks after : List ℕ} {x y : ℕ} {half : Bool} → InWords shape x y → length marks ≡ length words
+      → HalfBlack words marks (nineOf shape (x - 1) (y - 1)) half after
+      → Ran (tryGetArea shape x y) words marks (Inside half) after
   unfolding tryGetArea range flatMap
-  area-in-words {marks} {after} {x} {y} {n} inside sized counted =
+  area-in-words {marks} {after} {x} {y} {half} inside sized taken =
       let across : x + 2 - (x - 1) ≡ 3 = omega (arith, inside .left) in
       let tall : y + 2 - (y - 1) ≡ 3 = omega (arith, inside .top) in
       let within = within-columns 3 (x - 1) (y - 1) 3 (omega (arith, inside .right)) (omega (arith, inside .bottom)) in
-      let total : 0 + setBits words (map flat (square (x - 1) (y - 1))) ≡ n = omega (arith, square-black (x - 1) (y - 1), counted .black) in
+      let n = setBits words (nineOf shape (x - 1) (y - 1)) in
+      let total : 0 + setBits words (map flat (square (x - 1) (y - 1))) ≡ n = omega (arith, square-black (x - 1) (y - 1)) in
       let ran : Ran (countBlack shape (square (x - 1) (y - 1)) 0) words marks (count.Black n) after =
-      rw (counted .marked, ← total, ← square-marked marks (x - 1) (y - 1)) (count-inside (square (x - 1) (y - 1)) 0 marks sized within) in
-      rw (across, tall) (ran-bind _ ran (ran-done _))
+      rw (taken .marked, ← total, ← square-marked marks (x - 1) (y - 1)) (count-inside (square (x - 1) (y - 1)) 0 marks sized within) in
+      rw (taken .black, across, tall) (ran-bind _ ran (ran-done _))

@@ -99,15 +99,15 @@ pub fn try_get_area(words: &[u64], marks: &mut [u64], shape: Shape, x: u32, y: u
     requires { ⌜ Image shape (now words) (now marks) ⌝ }
     ensures { λ r. ⌜ Ran (tryGetArea shape x y) (now (words .entry)) (now (marks .entry)) r (now (marks .exit)) ⌝ }
 {
+    if bit_matrix_nine::in_words(shape, x, y) {
+        let black = bit_matrix_nine::half_of_nine(words, marks, shape, x - 1, y - 1);
+        return Sample::Inside(black);
+    }
     if x > shape.width {
         return Sample::Outside;
     }
     if y > shape.height {
         return Sample::Outside;
-    }
-    if bit_matrix_nine::in_words(shape, x, y) {
-        let black = bit_matrix_nine::count_nine(words, marks, shape, x - 1, y - 1);
-        return Sample::Inside(2 * black >= 9);
     }
     area_by_pixels(words, marks, shape, x, y)
 }

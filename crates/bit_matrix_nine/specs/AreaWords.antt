@@ -1,7 +1,10 @@
 -- What the functions say that take an area by whole words. Assumes nothing.
-use Prim.Native.Nat.{ℕ, _+_, _-_, _*_, _%_, _≤_, _<_}
+use Prim.Native.Nat.{ℕ, _+_, _-_, _*_, _/_, _%_, _≤_, _<_}
+use mathlib.Core.Bool.{Bool}
 use mathlib.Core.Path.{_≡_}
 use mathlib.Core.List.{List, [], _∷_, flatMap}
+use lib.Dec.{leb}
+use lib.ListN.{length}
 use Rattle.reads.specs.Bits.{digit, bitAt, markAll, range}
 use Rattle.bit_matrix.specs.declared.Shape.{Shape}
 
@@ -10,9 +13,23 @@ unfoldable pub setBits : List ℕ → List ℕ → ℕ
 setBits words [] = 0
 setBits words (i ∷ is) = digit (bitAt words i) + setBits words is
 
--- the bits of a list are counted, and marked
-pub record CountedBits (words before is : List ℕ) (count : ℕ) (after : List ℕ) : Type 0 where
-  pub black : count ≡ setBits words is
+-- the bits of a list as a number, the first as its lowest digit
+unfoldable pub packed : List ℕ → List ℕ → ℕ
+packed words [] = 0
+packed words (i ∷ is) = digit (bitAt words i) + 2 * packed words is
+
+-- how many of the three digits of a number below 8 are set
+abbrev pub ones : ℕ → ℕ
+ones n = n % 2 + n / 2 % 2 + n / 4
+
+-- the bits of a list are taken, and marked
+pub record TakenBits (words before is : List ℕ) (taken : ℕ) (after : List ℕ) : Type 0 where
+  pub bits : taken ≡ packed words is
+  pub marked : after ≡ markAll before is
+
+-- at least half of the bits of a list are set or not, and they are marked
+pub record HalfBlack (words before is : List ℕ) (half : Bool) (after : List ℕ) : Type 0 where
+  pub black : half ≡ leb (length is) (2 * setBits words is)
   pub marked : after ≡ markAll before is
 
 -- columns x to x + 2 of row y

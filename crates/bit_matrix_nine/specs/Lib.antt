@@ -1,2 +1,1 @@
 pub mod AreaWords
-pub mod AreaWordsLaws

@@ -4,6 +4,7 @@ use bit_matrix::Shape;
 use rxing_result_point::Point;
 use sines::Angle;
 ghost use mathlib.Core.Path.{_≡_};
+ghost use Prim.Native.Nat.{_<_};
 ghost use Rattle.reads.specs.RunsClauses.{Ran};
 ghost use Rattle.bit_matrix.specs.ShapeClauses.{Image};
 ghost use Rattle.detector_colours.specs.Colours.{rightColour, testDegree};
@@ -16,20 +17,15 @@ pub enum Degree {
     Outside,
 }
 
-// Whether a colour, true for black, is the right one at point k: group 0 is black, group 1 white, the others black, white, black.
+// A digit for each point, the first the lowest, 1 for black: group 0 is black, group 1 white, the others black, white, black.
+const BLACK_POINTS: u32 = 0b101_101_101_101_000_111;
+
+// Whether a colour, true for black, is the right one at point k.
 fn right_colour(k: usize, black: bool) -> bool
+    requires { ⌜ «k» < 18 ⌝ }
     ensures { λ r. ⌜ r ≡ rightColour «k» black ⌝ }
 {
-    if k < 3 {
-        return black;
-    }
-    if k < 6 {
-        return !black;
-    }
-    if k % 3 == 1 {
-        return !black;
-    }
-    black
+    black == (BLACK_POINTS >> k & 1 != 0)
 }
 
 // The colour about the point that lies `offset` past the centre, turned about it. The operations are those of `get_point`, in its order.

@@ -17,7 +17,7 @@ use Rattle.detector_colours.specs.Colours.{rightColour, ifDegree, pointsFrom, t
 use Rattle.detector_colours.specs.Looks.{lookPast, lookOffset}
 use Rattle.detector_colours.specs.declared.Degree.{Degree}
 use Rattle.detector_colours.specs.declared.Degree.the-variants.{WrongColour, Outside}
-use Rattle.detector_degrees.specs.Degrees.{degreesFrom, lookAt, tryDegrees}
+use Rattle.detector_degrees.specs.Degrees.{pointOf, degreesFrom, lookAt, tryDegrees}
 use Rattle.detector_degrees.specs.Offsets.{offsetPast, pointAt, EachPoint}
 use Rattle.detector_degrees.specs.declared.Rotation.{Rotation}
 use Rattle.detector_degrees.specs.declared.Rotation.the-variants as rotation
@@ -42,7 +42,8 @@ degrees-alike alike (suc n) i =
     (degrees-alike alike n (i + 1))
 
 module _ (shape : Shape) (center : PointU) (groups : List (List PointU)) {columns rows : List Float}
-    (across : EachPoint (offsetPast (pointAt center .x) groups false) columns) (down : EachPoint (offsetPast (pointAt center .y) groups true) rows) where
+    (across : EachPoint (λ k. offsetPast (pointAt center .x) false (pointOf groups k)) columns)
+    (down : EachPoint (λ k. offsetPast (pointAt center .y) true (pointOf groups k)) rows) where
   same-look : (angle : Angle) (k : ℕ) → k < 18 → lookOffset shape (pointAt center) columns rows angle k ≡ lookAt shape center groups angle k
   unfolding lookPast lookAt turned
   same-look angle k h = ap₂ (λ (u v : Float). lookPast shape (pointAt center) angle (record { x = u; y = v })) (across .each k h) (down .each k h)

@@ -1,4 +1,4 @@
--- A loop that lists the offsets of the eighteen points, one a turn. Assumes nothing.
+-- The offsets of the eighteen points are listed one after another. Assumes nothing.
 use Prim.Native.Nat.{ℕ, _+_, _≤_, _<_}
 use mathlib.Core.List.{List}
 use mathlib.Core.Logic.{inl, inr}
@@ -20,7 +20,7 @@ pub starts : {offset : ℕ → Float} {x : Float} → Listing offset (replicate 
 starts = record { long = refl; below = λ j h. absurd (omega (arith, h)) }
 
 module _ {offset : ℕ → Float} {l : List Float} {k : ℕ} (listing : Listing offset l k) where
-  pub lists : {v : Float} → k < 18 → v ≡ offset k → Listing offset (set l k v) (k + 1)
+  lists : {v : Float} → k < 18 → v ≡ offset k → Listing offset (set l k v) (k + 1)
   lists {v} h e = record { long = length-set l k v ∙ listing .long; below = below }
     where
       below : (j : ℕ) → j < k + 1 → getD (set l k v) j nan ≡ offset j
@@ -31,3 +31,10 @@ module _ {offset : ℕ → Float} {l : List Float} {k : ℕ} (listing : Listing 
 
   pub listed : 18 ≤ k → EachPoint offset l
   listed h = record { each = λ j low. listing .below j (omega arith) }
+
+pub lists-three : {offset : ℕ → Float} {l : List Float} {k : ℕ} {a b c : Float} → Listing offset l k → k + 3 ≤ 18
+    → a ≡ offset k → b ≡ offset (k + 1) → c ≡ offset (k + 2) → Listing offset (set (set (set l k a) (k + 1) b) (k + 2) c) (k + 3)
+lists-three {k = k} listing h e f g =
+    let second : k + 2 ≡ k + 1 + 1 = omega arith in
+    let third : k + 3 ≡ k + 1 + 1 + 1 = omega arith in
+    rw (second, third) (lists (lists (lists listing (omega arith) e) (omega arith) f) (omega arith) (rw second at g))

@@ -4,13 +4,13 @@ use detector_colours::Degree;
 use rxing_result_point::Point;
 use rxing_result_point::PointU;
 ghost use mathlib.Core.Path.{_≡_};
-ghost use Prim.Native.Nat.{_<_};
+ghost use Prim.Native.Nat.{ℕ, _+_, _≤_};
 ghost use Rattle.reads.specs.RunsClauses.{Ran};
 ghost use Rattle.bit_matrix.specs.ShapeClauses.{Image};
 ghost use Rattle.sines.specs.Sines.{sines};
 ghost use Rattle.detector_colours.specs.Looks.{lookOffset};
-ghost use Rattle.detector_degrees.specs.Degrees.{degreesFrom, tryDegrees};
-ghost use Rattle.detector_degrees.specs.Offsets.{coordinateOf, offsetPast, EachPoint};
+ghost use Rattle.detector_degrees.specs.Degrees.{pointOf, degreesFrom, tryDegrees};
+ghost use Rattle.detector_degrees.specs.Offsets.{coordinateOf, offsetPast, withGroup, EachPoint};
 
 // The first degree at which every point has its colour.
 pub enum Rotation {
@@ -18,27 +18,42 @@ pub enum Rotation {
     None,
 }
 
-// The column of point k of the eighteen, or its row.
-fn coordinate_of(groups: [[PointU; 3]; 6], k: usize, row: bool) -> u32
-    requires { ⌜ «k» < 18 ⌝ }
-    ensures { λ r. ⌜ r ≡ coordinateOf groups «k» row ⌝ }
+// A point's column, or its row.
+fn coordinate_of(point: PointU, row: bool) -> u32
+    ensures { λ r. ⌜ r ≡ coordinateOf row point ⌝ }
 {
-    let group = groups[k / 3];
-    let point = group[k % 3];
     if row { point.y } else { point.x }
+}
+
+// How far it lies past the centre's.
+fn offset_past(center: f32, point: PointU, row: bool) -> f32
+    ensures { λ r. ⌜ r ≡ offsetPast center row point ⌝ }
+{
+    let coordinate = coordinate_of(point, row);
+    std::num::nearest_u32_to_f32(coordinate) - center
+}
+
+// The offsets of a group's three points, written from place `first` on.
+fn list_group(offsets: &mut [f32; 18], first: usize, center: f32, group: [PointU; 3], row: bool)
+    requires { ⌜ «first» + 3 ≤ 18 ⌝ }
+    ensures { λ _. ⌜ now (offsets .exit) ≡ withGroup (now (offsets .entry)) «first» (offsetPast center row) group ⌝ }
+{
+    offsets[first] = offset_past(center, group[0], row);
+    offsets[first + 1] = offset_past(center, group[1], row);
+    offsets[first + 2] = offset_past(center, group[2], row);
 }
 
 // How far each point's column lies past the centre's, or its row. Made once, it serves all degrees.
 fn offsets_past(center: f32, groups: [[PointU; 3]; 6], row: bool) -> [f32; 18]
-    ensures { λ r. ⌜ EachPoint (offsetPast center groups row) r ⌝ }
+    ensures { λ r. ⌜ EachPoint (λ (k : ℕ). offsetPast center row (pointOf groups k)) r ⌝ }
 {
     let mut offsets = [0.0f32; 18];
-    let mut k = 0usize;
-    while k < 18 {
-        let coordinate = coordinate_of(groups, k, row);
-        offsets[k] = std::num::nearest_u32_to_f32(coordinate) - center;
-        k += 1;
-    }
+    list_group(&mut offsets, 0, center, groups[0], row);
+    list_group(&mut offsets, 3, center, groups[1], row);
+    list_group(&mut offsets, 6, center, groups[2], row);
+    list_group(&mut offsets, 9, center, groups[3], row);
+    list_group(&mut offsets, 12, center, groups[4], row);
+    list_group(&mut offsets, 15, center, groups[5], row);
     offsets
 }
 

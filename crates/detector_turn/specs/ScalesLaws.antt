@@ -1,27 +1,37 @@
--- What holds of a turn, on every image. Assumes nothing.
-use Prim.Native.Nat.{ℕ, zero, suc, _+_, _%_, _≤_}
+-- What holds of a turn, on every image; and that the boundary of a scale is all that its points need of circle and scale. Assumes nothing.
+use Prim.Native.Nat.{ℕ, zero, suc, _+_, _-_, _%_, _≤_, _<_}
 use mathlib.Core.Bool.{Bool, true, false, _||_, true≢false}
 use mathlib.Core.List.{List}
-use mathlib.Core.Path.{_≡_, refl}
+use mathlib.Core.Path.{_≡_, refl, ap, _∙_}
 use native.Mathlib.Omega.{arith}
 use borrow.Author.Tests.{leb-false}
-use lib.Dec.{leb}
-use lib.Ieee.{Float, binary32, ofInt, toBits}
+use lib.Dec.{T, leb}
+use lib.Ieee.{Float, nan, binary32, ofBits, ofInt, toBits, le}
+use lib.ListN.{getD}
+use Rattle.reads.specs.Every.{every-at}
 use Rattle.reads.specs.Reads.{Reads, done}
 use Rattle.reads.specs.ReadsLaws.{Always, always-done, always-bind, always-after, always-cond}
 use Rattle.bit_matrix.specs.declared.Shape.{Shape}
 use Rattle.bit_matrix.specs.ShapeClauses.{Inside}
 use Rattle.rxing_result_point.specs.declared.PointU.{PointU}
 use Rattle.rxing_result_point.specs.Points.{real}
-use Rattle.detector_boundary.specs.BoundaryClauses.{Centered}
+use Rattle.detector_size.specs.SizeClauses.{isScale}
+use Rattle.detector_boundary.specs.declared.Boundary.{Boundary}
+use Rattle.detector_boundary.specs.Boundary.{scaledBoundary}
+use Rattle.detector_boundary.specs.BoundaryClauses.{Centered, Placed}
+use Rattle.detector_boundary.specs.InImageLaws.{scaled-placed}
+use Rattle.detector_points.specs.Orientation.{orientationPoints}
+use Rattle.detector_points.specs.SourcePoints.{scaledPoints}
+use Rattle.detector_points.specs.PointsLaws.{points-by-boundary}
 use Rattle.detector_circle.specs.declared.Circle.{Circle}
 use Rattle.detector_degrees.specs.declared.Rotation.{Rotation}
 use Rattle.detector_degrees.specs.declared.Rotation.the-variants.{Found, None}
-use Rattle.detector_degrees.specs.Degrees.{ifRotation}
-use Rattle.detector_degrees.specs.DegreesLaws.{Tried, tried}
+use Rattle.detector_degrees.specs.Degrees.{ifRotation, tryDegrees}
+use Rattle.detector_degrees.specs.DegreesLaws.{Tried, tried, degrees-by-angle}
 use Rattle.detector_outcome.specs.declared.Turn.{Turn}
 use Rattle.detector_outcome.specs.Outcomes.{ifOutcome, rotationBits, turnedBy}
-use Rattle.detector_turn.specs.Scales.{acceptedScale, isOutside, attemptRotationBox, scalesFrom, tryScales}
+use Rattle.detector_turn.specs.Scales.{acceptedScales, acceptedScale, isOutside, attemptRotationBox, scalesFrom, tryScales}
+use Rattle.detector_turn.specs.SourceScales.{attemptAtEachPoint}
 use Rattle.detector_turn.specs.ScalesClauses.{LentCircle}
 
 -- A degree is even and at most 348, and 0 without a turn. The rotation is the degree as an f32. With a turn or a lost centre the scale is 1 to 5, else 0.
@@ -78,3 +88,31 @@ module _ (shape : Shape) where
   pub ended : (circle : Circle) → Inside shape (circle .center .x) (circle .center .y) → Always (Ended shape) (tryScales shape circle)
   unfolding tryScales
   ended circle inside = ended-from 5 1 circle (omega arith) (omega arith) inside
+
+-- ---- the boundary once for each scale
+
+-- every accepted scale is one that the boundaries take
+pub scale-accepted : (scale : ℕ) → 1 ≤ scale → scale < 6 → T (isScale (acceptedScale scale))
+unfolding acceptedScale ofBits le
+scale-accepted scale first last = every-at (λ (i : ℕ). isScale (getD acceptedScales i nan)) 5 tt (scale - 1) (omega arith)
+
+-- points of a boundary that a scale can give, and of nothing else
+pub record OfBoundary (b : Boundary) (points : List (List PointU)) : Type 0 where
+  pub placed : Placed b
+  pub same : points ≡ orientationPoints b
+
+-- Each of the five scales, about a centre inside the image and with the radius of a candidate, gives such a boundary, and its eighteen points are those of
+-- the boundary.
+pub scale-points : {shape : Shape} {center : PointU} {radius : ℕ} (scale : ℕ) → Centered shape center → 6 ≤ radius → radius ≤ 1018 → 1 ≤ scale → scale ≤ 5
+    → OfBoundary (scaledBoundary shape center radius (acceptedScale scale)) (scaledPoints shape center radius (acceptedScale scale))
+scale-points {shape} {center} {radius} scale centered least most first last = record {
+  placed = scaled-placed (acceptedScale scale) centered least (omega arith) (scale-accepted scale first (omega arith));
+  same = points-by-boundary shape center radius (acceptedScale scale) refl;
+}
+
+-- The source's scale reads and finds what the one does that makes its boundary once.
+pub same-attempt : (shape : Shape) (circle : Circle) (scale : Float) → attemptAtEachPoint shape circle scale ≡ attemptRotationBox shape circle scale
+unfolding attemptAtEachPoint attemptRotationBox
+same-attempt shape circle scale =
+    degrees-by-angle shape (circle .center) _
+    ∙ ap (tryDegrees shape (circle .center)) (points-by-boundary shape (circle .center) (circle .radius) scale refl)

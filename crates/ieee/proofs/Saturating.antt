@@ -159,24 +159,22 @@ pub negated-fits : (n : ℕ) → n < 2 ^ 31 → SFits w32 (negℤ (pos n))
 negated-fits zero h = record { sfits = h }
 negated-fits (suc n) h = record { sfits = omega arith }
 
--- ---- abs, then the cast, by whether x is below 1
-under-one : (a d : ℕ) → ltb (a * 1) (1 * 1 * d) ≡ true → a < 1 * d
-under-one a d h = omega (arith, ltb-true)
+-- ---- abs, then the cast, by whether x is at least 1
+above-kept : (x : Float) → T (above x) → toUnsigned 32 x ≡ toUnsigned 32 (abs x)
+unfolding toUnsigned abs
+above-kept nan p = absurd p
+above-kept (inf true) p = absurd p
+above-kept (inf false) p = refl
+above-kept (fin true m e) p = absurd p
+above-kept (fin false m e) p = refl
 
-pub abs-below-one : (x : Float) → lt x (fin false 1 (pos 0)) ≡ true → toUnsigned 32 (neg x) ≡ toUnsigned 32 (abs x)
-unfolding lt toUnsigned neg abs
+pub abs-from-one : (x : Float) → le (fin false 1 (pos 0)) x ≡ true → toUnsigned 32 x ≡ toUnsigned 32 (abs x)
+abs-from-one x h = above-kept x (one-above x h)
+
+pub abs-below-one : (x : Float) → le (fin false 1 (pos 0)) x ≡ false → toUnsigned 32 (neg x) ≡ toUnsigned 32 (abs x)
+unfolding le toUnsigned neg abs
 abs-below-one nan h = refl
 abs-below-one (inf true) h = refl
-abs-below-one (inf false) h = absurd (true≢false (sym h))
+abs-below-one (inf false) h = absurd (true≢false h)
 abs-below-one (fin true m e) h = refl
-abs-below-one (fin false m e) h =
-    let none : m * up e / down e < 1 = div-lt-iff-lt-mul (down-pos e) .1 (under-one (m * up e) (down e) h) in
-    omega (arith, none)
-
-pub abs-from-one : (x : Float) → lt x (fin false 1 (pos 0)) ≡ false → toUnsigned 32 x ≡ toUnsigned 32 (abs x)
-unfolding lt toUnsigned abs
-abs-from-one nan h = refl
-abs-from-one (inf true) h = absurd (true≢false h)
-abs-from-one (inf false) h = refl
-abs-from-one (fin true m e) h = absurd (omega (arith, ltb-false, down-pos e))
-abs-from-one (fin false m e) h = refl
+abs-below-one (fin false m e) h = omega (arith, no-whole m e h)

@@ -63,10 +63,10 @@ pub fn saturating_f32_to_u32(x: f32) -> u32
 pub fn abs_f32_to_u32(x: f32) -> u32
     ensures { λ r. ⌜ r ≡ Ieee.toUnsigned 32 (abs x) ⌝ }
 {
-    if x < 1.0 {
-        saturating_f32_to_u32(-x)
-    } else {
+    if x >= 1.0 {
         saturating_f32_to_u32(x)
+    } else {
+        saturating_f32_to_u32(-x)
     }
 }
 

@@ -10,7 +10,7 @@ use lib.Ieee.{Float, nan, inf, fin, up, down, ofBits}
 use lib.Ieee.Fits.{and-l, and-r}
 use lib.Ieee.Exact.{HasValue}
 use Rattle.sines.specs.Sines.{sineOf, cosineOf}
-use Rattle.sines.specs.Every.{every, every-at}
+use Rattle.reads.specs.Every.{every, every-at, same-truth}
 
 -- ---- the rules
 -- a value scaled by 2 ^ 29, cut to a whole number
@@ -60,12 +60,6 @@ unfolding sineOf
 sine-mod degree = rw mod-mod
 
 -- ---- scaled by 2 ^ 29 each is whole
-same-sign : (s t : Bool) → T (Bool·beq s t) → s ≡ t
-same-sign true true h = refl
-same-sign true false h = absurd h
-same-sign false true h = absurd h
-same-sign false false h = refl
-
 wholeIn : Float → Bool
 wholeIn nan = false
 wholeIn (inf s) = false
@@ -79,7 +73,7 @@ has-scaled (fin s m e) t =
     let u = scaled (fin s m e) in
     let same = Bool·beq s (negative u) in
     let even = eqb (m * up e * 2 ^ 29) (natAbs u * down e) in
-    (same-sign s (negative u) (and-l same even t), eqb→eq (m * up e * 2 ^ 29) (natAbs u * down e) (and-r same even t))
+    (same-truth s (negative u) (and-l same even t), eqb→eq (m * up e * 2 ^ 29) (natAbs u * down e) (and-r same even t))
 
 wholeAt : ℕ → Bool
 wholeAt d = wholeIn (sineOf d)

@@ -1,6 +1,6 @@
--- `bit_matrix_area::try_get_area` meets its contract: past the width or height nothing is read; elsewhere the area is taken by words or by pixels.
--- Assumes nothing.
-use Prim.Native.Nat.{ℕ, _+_, _-_, _*_, _^_, _<_}
+-- `bit_matrix_area::try_get_area` meets its contract: the area is taken by words where they hold it, and by pixels elsewhere; past the width or height
+-- nothing is read. Assumes nothing.
+use Prim.Native.Nat.{ℕ, _+_, _-_, _<_}
 use mathlib.Core.List.{List}
 use mathlib.Core.Logic.{inl, inr}
 use mathlib.Core.Path.{_≡_}
@@ -11,9 +11,8 @@ use Rattle.bit_matrix.specs.declared.Shape.{Shape}
 use Rattle.bit_matrix.specs.ShapeClauses.{Image, Inside}
 use Rattle.bit_matrix.specs.Pixels.{offset}
 use Rattle.bit_matrix.specs.PixelsLaws.{inside-stored}
-use Rattle.bit_matrix_nine.specs.AreaWords.{CountedBits, nineOf, InWords}
+use Rattle.bit_matrix_nine.specs.AreaWords.{InWords}
 use Rattle.bit_matrix_area.proofs.AreaLaws.{area-outside}
-use Rattle.bit_matrix_nine.specs.AreaWordsLaws.{few-nine}
 use Rattle.bit_matrix_area.proofs.NineLaws.{area-in-words}
 use Rattle.bit_matrix_area.proofs.try_get_area.Statement.{statement}
 use Rattle.bit_matrix_area.proofs.try_get_area.Tie as tie
@@ -24,40 +23,34 @@ last-row {shape} {x} {y} image inside =
     let below : Inside shape (x - 1) (y + 1) = record { column = omega (arith, inside .right); row = inside .bottom } in
     rw (same, image .stored) (inside-stored (image .limits) (x - 1) (y + 1) below)
 
-twice-fits : {words marks after : List ℕ} {n : ℕ} (shape : Shape) (x y : ℕ) → CountedBits words marks (nineOf shape x y) n after → 2 * n < 2 ^ 64
-twice-fits shape x y counted = omega (arith, few-nine shape x y counted)
-
-returns : tie.Need-returns
-returns c = area-outside _ _ _ (inl (c .if1 .taken))
-
-returns-2 : tie.Need-returns-2
-returns-2 c = area-outside _ _ _ (inr (c .if2 .taken))
-
 in-words-requires : tie.Need-in-words-requires
 in-words-requires c κs = search needs
 
-sub-count-nine : tie.Need-sub-count-nine
-sub-count-nine c = omega (arith, c .before .before .in-words .ensures (c .before .if3 .taken) .left)
+sub-half-of-nine : tie.Need-sub-half-of-nine
+sub-half-of-nine c = omega (arith, c .before .before .in-words .ensures (c .before .if1 .taken) .left)
 
-sub-count-nine-2 : tie.Need-sub-count-nine-2
-sub-count-nine-2 c = omega (arith, c .before .before .in-words .ensures (c .before .if3 .taken) .top)
+sub-half-of-nine-2 : tie.Need-sub-half-of-nine-2
+sub-half-of-nine-2 c = omega (arith, c .before .before .in-words .ensures (c .before .if1 .taken) .top)
 
-count-nine-requires : tie.Need-count-nine-requires
-count-nine-requires c κs =
-    let inside = c .before .before .in-words .ensures (c .before .if3 .taken) in
+half-of-nine-requires : tie.Need-half-of-nine-requires
+half-of-nine-requires c κs =
+    let inside = c .before .before .in-words .ensures (c .before .if1 .taken) in
     search (needs, last-row)
-
-mul-t13 : tie.Need-mul-t13
-mul-t13 c = record { fits = search twice-fits }
 
 same-length : tie.Need-same-length
 same-length c = search needs
 
-returns-3 : tie.Need-returns-3
-returns-3 c =
+returns : tie.Need-returns
+returns c =
     let asked = c .before .before .before .before in
-    let inside = asked .before .in-words .ensures (asked .if3 .taken) in
+    let inside = asked .before .in-words .ensures (asked .if1 .taken) in
     search area-in-words
+
+returns-2 : tie.Need-returns-2
+returns-2 c = area-outside _ _ _ (inl (c .if2 .taken))
+
+returns-3 : tie.Need-returns-3
+returns-3 c = area-outside _ _ _ (inr (c .if3 .taken))
 
 area-by-pixels-requires : tie.Need-area-by-pixels-requires
 area-by-pixels-requires c κs = search needs
@@ -72,14 +65,13 @@ pub try-get-area-spec : {M : Type 1} → statement M
 try-get-area-spec =
     tie.close
     (tie.spec
+    in-words-requires
+    sub-half-of-nine
+    sub-half-of-nine-2
+    half-of-nine-requires
+    same-length
     returns
     returns-2
-    in-words-requires
-    sub-count-nine
-    sub-count-nine-2
-    count-nine-requires
-    mul-t13
-    same-length
     returns-3
     area-by-pixels-requires
     same-length-2

@@ -10,7 +10,7 @@ use Rattle.bit_matrix.specs.declared.Shape.{Shape}
 use Rattle.rxing_result_point.specs.declared.PointU.{PointU}
 use Rattle.rxing_result_point.specs.Points.{real}
 use Rattle.detector_colours.specs.Looks.{lookOffset}
-use Rattle.detector_degrees.specs.Degrees.{degreesFrom, tryDegrees}
+use Rattle.detector_degrees.specs.Degrees.{pointOf, degreesFrom, tryDegrees}
 use Rattle.detector_degrees.specs.Offsets.{offsetPast, EachPoint}
 use Rattle.detector_degrees.proofs.Alike.{same-degrees}
 use Rattle.detector_degrees.specs.declared.Rotation.{Rotation}
@@ -19,7 +19,8 @@ use Rattle.detector_degrees.proofs.try_degrees.Tie as tie
 
 tried : {words marks after : List ℕ} {found : Rotation} (shape : Shape) (center : PointU) (groups : List (List PointU))
     {cx cy : Float} {columns rows : List Float}
-    → cx ≡ real (center .x) → cy ≡ real (center .y) → EachPoint (offsetPast cx groups false) columns → EachPoint (offsetPast cy groups true) rows
+    → cx ≡ real (center .x) → cy ≡ real (center .y) → EachPoint (λ k. offsetPast cx false (pointOf groups k)) columns
+    → EachPoint (λ k. offsetPast cy true (pointOf groups k)) rows
     → Ran (degreesFrom (lookOffset shape (record { x = cx; y = cy }) columns rows) 175 0) words marks found after
     → Ran (tryDegrees shape center groups) words marks found after
 tried shape center groups e f across down ran =

@@ -7,9 +7,8 @@ use mathlib.Core.Path.{_≡_, refl, sym, _∙_}
 use native.Mathlib.Omega.{arith}
 use borrow.Author.Needs.{needs}
 use lib.Dec.{T}
-use lib.Ieee.{Float, nan, ofBits, le}
-use lib.ListN.{length, getD}
-use Rattle.sines.specs.Every.{every-at}
+use lib.Ieee.{Float}
+use lib.ListN.{length}
 use Rattle.reads.specs.ReadsLaws.{Always, always-done, always-after}
 use Rattle.reads.specs.RunsClauses.{Ran, Resumes}
 use Rattle.reads.specs.RunsLaws.{ran-is, ran-length, always-ran, resumes-start, resumes-step, resumes-then, resumes-else, resumes-end}
@@ -21,10 +20,10 @@ use Rattle.detector_circle.specs.Circle.{correctedCircle}
 use Rattle.detector_degrees.specs.declared.Rotation.{Rotation}
 use Rattle.detector_degrees.specs.declared.Rotation.the-variants.{Found, None}
 use Rattle.detector_outcome.specs.declared.Turn.{Turn}
-use Rattle.detector_turn.specs.Scales.{acceptedScales, acceptedScale, isOutside, attemptRotationBox, scalesFrom, tryScales}
+use Rattle.detector_turn.specs.Scales.{acceptedScale, isOutside, attemptRotationBox, scalesFrom, tryScales}
 use Rattle.detector_turn.specs.ScalesClauses.{LentCircle}
 use Rattle.detector_outcome.specs.Outcomes.{turnedBy, notTurned, lostAt}
-use Rattle.detector_turn.specs.ScalesLaws.{inside-of}
+use Rattle.detector_turn.specs.ScalesLaws.{inside-of, scale-accepted}
 use Rattle.detector_turn.proofs.try_scales.Statement.{statement}
 use Rattle.detector_turn.proofs.try_scales.Tie as tie
 
@@ -32,11 +31,6 @@ use Rattle.detector_turn.proofs.try_scales.Tie as tie
 radius-kept : (shape : Shape) (circle : Circle) → Always (λ (next : Circle). next .radius ≡ circle .radius) (correctedCircle shape circle)
 unfolding correctedCircle
 radius-kept shape circle = always-after _ _ λ center. always-done refl
-
--- every accepted scale is one that the boundaries take
-scale-accepted : (scale : ℕ) → 1 ≤ scale → scale < 6 → T (isScale (acceptedScale scale))
-unfolding acceptedScale ofBits le
-scale-accepted scale first last = every-at (λ (i : ℕ). isScale (getD acceptedScales i nan)) 5 tt (scale - 1) (omega arith)
 
 record Trying (words marks₀ : List ℕ) (shape : Shape) (table : List Float) (start : Circle) (marks : List ℕ) (circle : Circle) (scale : ℕ) : Type 0 where
   lent : LentCircle shape words marks circle table

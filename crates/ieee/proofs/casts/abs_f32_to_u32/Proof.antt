@@ -14,11 +14,11 @@ saturating-f32-to-u32-requires-2 c κs = search needs
 
 returns : tie.Need-returns
 unfolding ofBits
-returns c = c .saturating-f32-to-u32 .ensures ∙ abs-below-one (c .before .before .args .x) (c .before .if1 .taken)
+returns c = c .saturating-f32-to-u32 .ensures ∙ abs-from-one (c .before .before .args .x) (c .before .if1 .taken)
 
 returns-2 : tie.Need-returns-2
 unfolding ofBits
-returns-2 c = c .saturating-f32-to-u322 .ensures ∙ abs-from-one (c .before .before .args .x) (c .before .if1 .left)
+returns-2 c = c .saturating-f32-to-u322 .ensures ∙ abs-below-one (c .before .before .args .x) (c .before .if1 .left)
 
 pub abs-f32-to-u32-spec : {M : Type 1} → statement M
 abs-f32-to-u32-spec = tie.close (tie.spec saturating-f32-to-u32-requires saturating-f32-to-u32-requires-2 returns returns-2)
