@@ -1,15 +1,19 @@
-//! Checks on what is compiled, by the calls in the output of `rt mir`, that a scale makes its boundary once, before the loop over the degrees, and that a degree
-//! looks up its sine and cosine once, before the loop over the points. Without rt it is skipped.
+//! Checks on what is compiled, by the calls in the output of `rt mir`, that a scale makes its boundary once, before the loop over the degrees, and that a
+//! degree looks up its sine and cosine once, before the loop over the points. A look-up is a call of `sines::sine`, which alone indexes the table (source.rs).
+//! Without rt it is skipped.
 use std::{
     io::{self, Write},
     path::Path,
     process::Command,
 };
 
+const TRY_SCALES: &str = "detector_turn::try_scales";
 const ATTEMPT: &str = "detector_turn::attempt_rotation_box";
+const POINTS: &str = "detector_points::adjusted_orientation_points";
 const TRY_DEGREES: &str = "detector_degrees::try_degrees";
 const TRY_OFFSETS: &str = "detector_degrees::try_offsets";
 const TEST_DEGREE: &str = "detector_colours::test_degree";
+const PLAIN_BOUNDARY: &str = "detector_boundary::plain_boundary";
 const SCALED_BOUNDARY: &str = "detector_boundary::scaled_boundary";
 const ANGLE_OF: &str = "sines::angle_of";
 
@@ -45,7 +49,8 @@ fn calls(mir: &str) -> Vec<Call> {
                 open.pop();
             } else {
                 let rest = &text[place + 1..];
-                let end = rest.find([' ', '(', ')']).unwrap_or(rest.len());
+                let ends = |letter: char| letter.is_whitespace() || "()".contains(letter);
+                let end = rest.find(ends).unwrap_or(rest.len());
                 open.push(&rest[..end]);
             }
         }
@@ -93,11 +98,19 @@ fn reached<'a>(calls: &'a [Call], from: &'a str) -> Vec<&'a str> {
 #[test]
 fn a_scale_makes_its_boundary_once_before_its_degrees() {
     let Some(calls) = compiled() else { return };
+    assert_eq!(callers(&calls, ATTEMPT), [(TRY_SCALES, 1)]);
     assert_eq!(callers(&calls, SCALED_BOUNDARY), [(ATTEMPT, 0)]);
     assert_eq!(
-        callers(&calls, "detector_boundary::calculate_simple_boundary"),
-        [("detector_boundary::plain_boundary", 0), (SCALED_BOUNDARY, 0)]
+        callers(&calls, PLAIN_BOUNDARY),
+        [("detector_box::box_symbol", 0)]
     );
+    let simple = callers(&calls, "detector_boundary::calculate_simple_boundary");
+    assert_eq!(simple, [(PLAIN_BOUNDARY, 0), (SCALED_BOUNDARY, 0)]);
+    // the points have the boundary and make none, from a circle's size or otherwise
+    assert_eq!(callers(&calls, POINTS), [(ATTEMPT, 0)]);
+    for name in reached(&calls, POINTS) {
+        assert!(name.starts_with("detector_points::"), "{name}");
+    }
     // the degrees' loop, and that nothing in it makes a boundary
     assert_eq!(callers(&calls, TRY_DEGREES), [(ATTEMPT, 0)]);
     assert_eq!(callers(&calls, TRY_OFFSETS), [(TRY_DEGREES, 0)]);
@@ -119,7 +132,10 @@ fn a_degree_looks_up_its_sine_and_cosine_once_before_its_points() {
     sines.sort_unstable();
     assert_eq!(sines, [(ANGLE_OF, 0), ("sines::cosine", 0)]);
     // the points' loop, and that nothing in it looks up a sine
-    assert_eq!(callers(&calls, "detector_colours::look"), [(TEST_DEGREE, 1)]);
+    assert_eq!(
+        callers(&calls, "detector_colours::look"),
+        [(TEST_DEGREE, 1)]
+    );
     for name in reached(&calls, TEST_DEGREE) {
         assert!(!name.starts_with("sines::"), "{name}");
     }
@@ -128,7 +144,8 @@ fn a_degree_looks_up_its_sine_and_cosine_once_before_its_points() {
 #[test]
 fn a_call_in_a_loop_is_told_from_one_before_it() {
     let body = |loops: &str| format!(r#"(seq (call (direct (fnRef "b::c")) lnil) {loops})"#);
-    let inside = r#"(block (loop (seq (loop skip) (call (direct (fnRef "d")) lnil (place 0 lnil)))))"#;
+    let inside =
+        r#"(block (loop (seq (loop skip) (call (direct (fnRef "d")) lnil (place 0 lnil)))))"#;
     let mir = format!(
         r#"program (lcons (fn-def "a" (fnItem 0 {})) (lcons (fn-def "b::c" (fnItem 0 return)) lnil)) (fnRef "a")"#,
         body(inside)

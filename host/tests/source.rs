@@ -1,4 +1,4 @@
-//! Checks the proved code in crates/: no function takes more than seven arguments.
+//! Checks the proved code in crates/: no function takes more than seven arguments, and the table of sines is indexed in one place.
 use std::{
     fs,
     path::{Path, PathBuf},
@@ -54,6 +54,21 @@ fn no_function_takes_more_than_seven_arguments() {
     }
     assert!(counted > 100, "only {counted} functions were found");
     assert!(problems.is_empty(), "{}", problems.join("\n"));
+}
+
+/// So the calls of `sines::sine` are all its look-ups (tests/once.rs).
+#[test]
+fn the_table_of_sines_is_indexed_in_one_place() {
+    let host = Path::new(env!("CARGO_MANIFEST_DIR"));
+    let crates = host.parent().expect("host/ has a parent").join("crates");
+    let mut places = Vec::new();
+    for path in sources(&crates) {
+        let text = fs::read_to_string(&path).expect("a file of code is text");
+        for _ in text.matches("table[") {
+            places.push(path.clone());
+        }
+    }
+    assert_eq!(places, [crates.join("sines/src/lib.rt")]);
 }
 
 #[test]

@@ -27,7 +27,7 @@ pub record TakenBits (words before is : List ℕ) (taken : ℕ) (after : List �
   pub bits : taken ≡ packed words is
   pub marked : after ≡ markAll before is
 
--- at least half of the bits of a list are set or not, and they are marked
+-- whether at least half of the bits of a list are set; they are marked
 pub record HalfBlack (words before is : List ℕ) (half : Bool) (after : List ℕ) : Type 0 where
   pub black : half ≡ leb (length is) (2 * setBits words is)
   pub marked : after ≡ markAll before is

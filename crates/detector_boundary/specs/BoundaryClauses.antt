@@ -19,7 +19,8 @@ pub record Range (low high : ℤ) : Type 0 where
   pub high-natural : T (nonNeg high)
   pub ordered : natAbs low ≤ natAbs high
 
--- a boundary up to column and row 2,048, and at least 33 wide and 30 high
+-- a boundary that a scale can give, or the plain box (`scaled-placed`, `plain-placed`): up to column and row 2,048, and at least 33 wide and 30 high, which
+-- the points' sums and differences need
 pub record Placed (b : Boundary) : Type 0 where
   pub right : b .right ≤ 2048
   pub top : b .top ≤ 2048

@@ -1,4 +1,4 @@
--- Which degrees are found, on every image; and that a degree's test needs its sine and cosine alone. Assumes nothing.
+-- Which degrees are found, on every image; and that a degree's test needs of the degree its sine and cosine alone. Assumes nothing.
 use Prim.Native.Nat.{ℕ, zero, suc, _+_, _*_, _%_, _≤_}
 use mathlib.Core.List.{List}
 use mathlib.Core.Path.{_≡_, refl, ap₂}

@@ -1,5 +1,5 @@
--- The degrees as the source tries them: a degree goes down to every point, and `get_point` looks up its sine and cosine for the point. `DegreesLaws`
--- proves them equal to those that look them up once. Assumes nothing.
+-- The degrees as the source tries them: a degree goes down to every point, and `get_point` works out its sine and cosine for the point, here by the table
+-- that stands in for both. `DegreesLaws` proves them equal to those that look them up once. Assumes nothing.
 use Prim.Native.Nat.{ℕ, zero, suc, _+_, _*_}
 use mathlib.Core.List.{List}
 use lib.Ieee.{toUnsigned}

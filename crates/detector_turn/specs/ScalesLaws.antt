@@ -96,7 +96,7 @@ pub scale-accepted : (scale : ℕ) → 1 ≤ scale → scale < 6 → T (isScale 
 unfolding acceptedScale ofBits le
 scale-accepted scale first last = every-at (λ (i : ℕ). isScale (getD acceptedScales i nan)) 5 tt (scale - 1) (omega arith)
 
--- points of a boundary that a scale can give, and of nothing else
+-- the boundary is one that a scale can give, and the points are its points
 pub record OfBoundary (b : Boundary) (points : List (List PointU)) : Type 0 where
   pub placed : Placed b
   pub same : points ≡ orientationPoints b
@@ -110,7 +110,7 @@ scale-points {shape} {center} {radius} scale centered least most first last = re
   same = points-by-boundary shape center radius (acceptedScale scale) refl;
 }
 
--- The source's scale reads and finds what the one does that makes its boundary once.
+-- A scale as the source tries it reads and finds the same as one whose boundary is made once.
 pub same-attempt : (shape : Shape) (circle : Circle) (scale : Float) → attemptAtEachPoint shape circle scale ≡ attemptRotationBox shape circle scale
 unfolding attemptAtEachPoint attemptRotationBox
 same-attempt shape circle scale =

@@ -1,5 +1,5 @@
--- `attempt_rotation_box` as the source has it: the boundary is worked out for each point, and sine and cosine are looked up for each point at each degree.
--- `ScalesLaws` proves it equal to the one that does both before the points. Assumes nothing.
+-- `attempt_rotation_box` as the source has it, without the centre's correction before it and the corners' turn after it: the boundary is worked out for each
+-- point, and sine and cosine for each point at each degree. `ScalesLaws` proves it equal to the one that does both before the points. Assumes nothing.
 use lib.Ieee.{Float}
 use Rattle.reads.specs.Reads.{Reads}
 use Rattle.bit_matrix.specs.declared.Shape.{Shape}

@@ -82,13 +82,12 @@ cut w (fin false m e) p h = uncapped (m * up e / down e) (2 ^ w) (div-lt-iff-lt-
 -- ---- the shift
 pub record Shift (x : Float) (b : ℕ) : Type 0 where
   pub number : T (not (isNan x))
-  pub small : b < 2 ^ 31
   pub low : 127 ≤ b / 2 ^ 23
   pub high : b / 2 ^ 23 ≤ 158
   pub whole : (2 ^ 23 + b % 2 ^ 23) * 256 / 2 ^ (158 - b / 2 ^ 23) ≡ toUnsigned 32 x
 
 pub shift : (x : Float) → T (fits binary32 x) → T (le (fin false 1 (pos 0)) x) → T (lt x (fin false 1 (pos 32))) → Shift x (toBits binary32 x)
-shift x fit l h = go (toBits binary32 x) (toBits binary32 x / 2 ^ 23) (all .unsigned) refl (all .fields)
+shift x fit l h = go (toBits binary32 x) (toBits binary32 x / 2 ^ 23) refl (all .fields)
   where
     is : Between x
     is = within x l h
@@ -99,17 +98,16 @@ shift x fit l h = go (toBits binary32 x) (toBits binary32 x / 2 ^ 23) (all .unsi
     cross : (y t : ℕ) → InFields binary32 x false y t → num x * 2 ^ 149 ≡ digits binary32 y t * 2 ^ places y * den x
     cross y t fields = value→cross x (digits binary32 y t * 2 ^ places y) (2 ^ 149) (fields .value)
 
-    go : (b y : ℕ) → b < 2 ^ 31 → b / 2 ^ 23 ≡ y → InFields binary32 x false y (b % 2 ^ 23) → Shift x b
-    go b zero less e fields = absurd
+    go : (b y : ℕ) → b / 2 ^ 23 ≡ y → InFields binary32 x false y (b % 2 ^ 23) → Shift x b
+    go b zero e fields = absurd
         (omega (arith, above-power (num x) (den x) (b % 2 ^ 23) 0 149 (den-pos x) (cross 0 (b % 2 ^ 23) fields) 24 (omega arith) (is .low)))
-    go b (suc y) less e fields =
+    go b (suc y) e fields =
         let d = 2 ^ 23 + b % 2 ^ 23 in
         let value : num x * 2 ^ 149 ≡ d * 2 ^ y * den x = cross (suc y) (b % 2 ^ 23) fields in
         let low : 149 < 24 + y = above-power (num x) (den x) d y 149 (den-pos x) value 24 (omega arith) (is .low) in
         let high : 23 + y < 32 + 149 = below-power (num x) (den x) d y 149 (den-pos x) value 23 32 (omega arith) (is .high) in
         record {
           number = positive-not-nan x (is .above);
-          small = less;
           low = omega arith;
           high = omega arith;
           whole = shifted d y 149 8 (158 - b / 2 ^ 23) (omega arith) ∙ sym (quotient (num x) (den x) d y 149 (den-pos x) value)

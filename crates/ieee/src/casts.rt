@@ -38,10 +38,10 @@ fn whole_part(x: f32) -> u32
     requires { ⌜ T (Ieee.le (fin false 1 (pos 0)) x) × T (Ieee.lt x (fin false 1 (pos 32))) ⌝ }
     ensures { λ r. ⌜ r ≡ Ieee.toUnsigned 32 x ⌝ }
 {
-    let bits = f32::to_bits(x) as u64;
+    let bits = f32::to_bits(x);
     let digits = 0x80_0000 + bits % 0x80_0000;
     let field = bits / 0x80_0000;
-    (digits * 256 >> (158 - field)) as u32
+    digits * 256 >> (158 - field)
 }
 
 // Rust's `x as u32`. A NaN is not at least 1, and goes the way of the small numbers.

@@ -3,7 +3,6 @@ use native.Mathlib.Omega.{arith}
 use mathlib.Core.Path.{sym, subst}
 use lib.Dec.{T}
 use lib.Ieee.{binary32, toBits}
-use lib.Ieee.Casts.{toUnsigned-lt}
 use borrow.Author.Needs.{needs}
 use Rattle.ieee.proofs.WholePart.{Shift, shift}
 use Rattle.ieee.proofs.casts.whole_part.Statement.{statement}
@@ -14,9 +13,6 @@ at-start c = shift (c .args .x) (subst T (sym (c .good .0 .1)) tt) (c .pre .0) (
 
 float-to-bits-bits : tie.Need-float-to-bits-bits
 float-to-bits-bits c = at-start c .number
-
-cast-bits : tie.Need-cast-bits
-cast-bits c = omega (arith, at-start c .small)
 
 add-digits : tie.Need-add-digits
 add-digits c = search needs
@@ -30,9 +26,6 @@ sub-result c = omega (arith, at-start c .high)
 shr-result : tie.Need-shr-result
 shr-result c = omega (arith, at-start c .low)
 
-cast-result : tie.Need-cast-result
-cast-result c = omega (arith, at-start c .whole, toUnsigned-lt 32 (c .args .x))
-
 returns : tie.Need-returns
 returns c = at-start c .whole
 
@@ -41,10 +34,8 @@ whole-part-spec =
     tie.close
     (tie.spec
     float-to-bits-bits
-    cast-bits
     add-digits
     mul-result
     sub-result
     shr-result
-    cast-result
     returns)
