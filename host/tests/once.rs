@@ -5,6 +5,7 @@ use std::{
     io::{self, Write},
     path::Path,
     process::Command,
+    sync::OnceLock,
 };
 
 const TRY_SCALES: &str = "detector_turn::try_scales";
@@ -59,7 +60,7 @@ fn calls(mir: &str) -> Vec<Call> {
 }
 
 /// The calls of the library that hosts link, or none, with one line, where rt is missing.
-fn compiled() -> Option<Vec<Call>> {
+fn printed() -> Option<Vec<Call>> {
     let mut command = Command::new("rt");
     let root = Path::new(env!("CARGO_MANIFEST_DIR")).join("..");
     let Ok(output) = command.args(["mir", "tunnel"]).current_dir(root).output() else {
@@ -72,6 +73,12 @@ fn compiled() -> Option<Vec<Call>> {
     let calls = calls(&String::from_utf8_lossy(&output.stdout));
     assert!(calls.len() > 100, "only {} calls were found", calls.len());
     Some(calls)
+}
+
+/// The same, printed once for all tests: two runs of rt at a time would write over each other's files.
+fn compiled() -> Option<&'static [Call]> {
+    static CALLS: OnceLock<Option<Vec<Call>>> = OnceLock::new();
+    CALLS.get_or_init(printed).as_deref()
 }
 
 /// Callers of a function, each with its loops.
@@ -98,24 +105,24 @@ fn reached<'a>(calls: &'a [Call], from: &'a str) -> Vec<&'a str> {
 #[test]
 fn a_scale_makes_its_boundary_once_before_its_degrees() {
     let Some(calls) = compiled() else { return };
-    assert_eq!(callers(&calls, ATTEMPT), [(TRY_SCALES, 1)]);
-    assert_eq!(callers(&calls, SCALED_BOUNDARY), [(ATTEMPT, 0)]);
+    assert_eq!(callers(calls, ATTEMPT), [(TRY_SCALES, 1)]);
+    assert_eq!(callers(calls, SCALED_BOUNDARY), [(ATTEMPT, 0)]);
     assert_eq!(
-        callers(&calls, PLAIN_BOUNDARY),
+        callers(calls, PLAIN_BOUNDARY),
         [("detector_box::box_symbol", 0)]
     );
-    let simple = callers(&calls, "detector_boundary::calculate_simple_boundary");
+    let simple = callers(calls, "detector_boundary::calculate_simple_boundary");
     assert_eq!(simple, [(PLAIN_BOUNDARY, 0), (SCALED_BOUNDARY, 0)]);
     // the points have the boundary and make none, from a circle's size or otherwise
-    assert_eq!(callers(&calls, POINTS), [(ATTEMPT, 0)]);
-    for name in reached(&calls, POINTS) {
+    assert_eq!(callers(calls, POINTS), [(ATTEMPT, 0)]);
+    for name in reached(calls, POINTS) {
         assert!(name.starts_with("detector_points::"), "{name}");
     }
     // the degrees' loop, and that nothing in it makes a boundary
-    assert_eq!(callers(&calls, TRY_DEGREES), [(ATTEMPT, 0)]);
-    assert_eq!(callers(&calls, TRY_OFFSETS), [(TRY_DEGREES, 0)]);
-    assert_eq!(callers(&calls, TEST_DEGREE), [(TRY_OFFSETS, 1)]);
-    for name in reached(&calls, TRY_DEGREES) {
+    assert_eq!(callers(calls, TRY_DEGREES), [(ATTEMPT, 0)]);
+    assert_eq!(callers(calls, TRY_OFFSETS), [(TRY_DEGREES, 0)]);
+    assert_eq!(callers(calls, TEST_DEGREE), [(TRY_OFFSETS, 1)]);
+    for name in reached(calls, TRY_DEGREES) {
         assert!(!name.starts_with("detector_boundary::"), "{name}");
     }
 }
@@ -123,20 +130,17 @@ fn a_scale_makes_its_boundary_once_before_its_degrees() {
 #[test]
 fn a_degree_looks_up_its_sine_and_cosine_once_before_its_points() {
     let Some(calls) = compiled() else { return };
-    let of_degrees: Vec<_> = (callers(&calls, ANGLE_OF).into_iter())
-        .filter(|(from, _)| reached(&calls, TRY_DEGREES).contains(from))
+    let of_degrees: Vec<_> = (callers(calls, ANGLE_OF).into_iter())
+        .filter(|(from, _)| reached(calls, TRY_DEGREES).contains(from))
         .collect();
     assert_eq!(of_degrees, [(TRY_OFFSETS, 1)]);
-    assert_eq!(callers(&calls, "sines::cosine"), [(ANGLE_OF, 0)]);
-    let mut sines = callers(&calls, "sines::sine");
+    assert_eq!(callers(calls, "sines::cosine"), [(ANGLE_OF, 0)]);
+    let mut sines = callers(calls, "sines::sine");
     sines.sort_unstable();
     assert_eq!(sines, [(ANGLE_OF, 0), ("sines::cosine", 0)]);
     // the points' loop, and that nothing in it looks up a sine
-    assert_eq!(
-        callers(&calls, "detector_colours::look"),
-        [(TEST_DEGREE, 1)]
-    );
-    for name in reached(&calls, TEST_DEGREE) {
+    assert_eq!(callers(calls, "detector_colours::look"), [(TEST_DEGREE, 1)]);
+    for name in reached(calls, TEST_DEGREE) {
         assert!(!name.starts_with("sines::"), "{name}");
     }
 }
@@ -155,7 +159,8 @@ fn a_call_in_a_loop_is_told_from_one_before_it() {
         to: to.to_owned(),
         loops,
     };
-    assert_eq!(calls(&mir), [call("a", "b::c", 0), call("a", "d", 1)]);
-    assert_eq!(reached(&calls(&mir), "a"), ["a", "b::c", "d"]);
-    assert_eq!(callers(&calls(&mir), "d"), [("a", 1)]);
+    let calls = calls(&mir);
+    assert_eq!(calls, [call("a", "b::c", 0), call("a", "d", 1)]);
+    assert_eq!(reached(&calls, "a"), ["a", "b::c", "d"]);
+    assert_eq!(callers(&calls, "d"), [("a", 1)]);
 }
