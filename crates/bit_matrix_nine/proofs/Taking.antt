@@ -13,7 +13,7 @@ use Rattle.reads.specs.Bits.{digit, testBit, bitAt, markAll, range}
 use Rattle.reads.specs.BitsLaws.{digit-low, markAll-append}
 use Rattle.reads.specs.MasksLaws.{marked-word}
 use Rattle.bit_matrix.specs.declared.Shape.{Shape}
-use Rattle.bit_matrix_nine.specs.AreaWords.{setBits, packed, ones, TakenBits, HalfBlack, threeOf, nineOf}
+use Rattle.bit_matrix_nine.specs.AreaWords.{setBits, packed, ones, TakenBits, HalfBlack, nineOf}
 
 -- ---- three bits of one word
 
@@ -28,7 +28,13 @@ digit-test w j = digit-of (w / 2 ^ j % 2) (omega arith)
 
 -- the lowest three digits of a number
 three-digits : (n a b c : ℕ) → a ≡ n % 2 → b ≡ n / 2 % 2 → c ≡ n / 4 % 2 → n % 8 ≡ a + 2 * (b + 2 * (c + 2 * 0))
-three-digits n a b c e f g = omega (arith, mod-mul n {m = 4} {c = 2} (lit< tt) (lit< tt), mod-mul (n / 2) {m = 2} {c = 2} (lit< tt) (lit< tt), ap (λ (v : ℕ). v % 2) (shr-shr n 1 1))
+three-digits n a b c e f g =
+    omega (
+      arith,
+      mod-mul n {m = 4} {c = 2} (lit< tt) (lit< tt),
+      mod-mul (n / 2) {m = 2} {c = 2} (lit< tt) (lit< tt),
+      ap (λ (v : ℕ). v % 2) (shr-shr n 1 1),
+    )
 
 -- bit j of word q, by the word shifted to bit p
 shifted-bit : (q p j : ℕ) (words : List ℕ) → p + j < 64 → digit (bitAt words (q * 64 + (p + j))) ≡ getD words q 0 / 2 ^ p / 2 ^ j % 2

@@ -1,6 +1,6 @@
 -- The rules of the table (docs/MANUAL.md, "How a search decides") hold at every degree (`sine-rules`): each is one test that antt computes over the
 -- 360 entries, as whole numbers of 2 ^ -29. And a degree counts modulo 360 (`sine-mod`). Assumes nothing.
-use mathlib.Core.Path.{_≡_, refl, sym, ap, _∙_, subst}
+use mathlib.Core.Path.{_≡_, sym, ap, _∙_, subst}
 use mathlib.Core.Bool.{Bool, true, false, cond, _&&_, Bool·beq}
 use Prim.Native.Nat.{ℕ, _+_, _*_, _/_, _%_, _^_, _≤_, _<_}
 use native.Mathlib.Nat.{mod-lt, mod-mod, mod-add-mod}

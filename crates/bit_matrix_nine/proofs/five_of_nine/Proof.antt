@@ -3,7 +3,6 @@ use Prim.Native.Nat.{ℕ, _+_, _*_, _/_, _%_, _^_, _<_}
 use mathlib.Core.Bool.{Bool, not, Bool·beq}
 use mathlib.Core.Path.{_≡_}
 use native.Mathlib.Omega.{arith}
-use borrow.Author.Needs.{needs}
 use lib.Arith.{digits-div, digits-mod}
 use lib.Bits.{bitAnd, bitOr, bitXor, and-lt, or-lt, xor-lt}
 use lib.Dec.{eqb, leb}

@@ -1,5 +1,5 @@
 -- `bit_matrix_nine::half_of_nine` meets its contract: three rows of three, one after another. Assumes nothing.
-use Prim.Native.Nat.{ℕ, _+_, _*_, _%_, _^_, _≤_, _<_}
+use Prim.Native.Nat.{ℕ, _+_, _*_, _%_, _^_, _<_}
 use mathlib.Core.Bool.{Bool}
 use mathlib.Core.List.{List}
 use mathlib.Core.Path.{_≡_}
@@ -9,7 +9,6 @@ use lib.Dec.{leb}
 use lib.ListN.{length}
 use Rattle.reads.specs.Bits.{range}
 use Rattle.bit_matrix.specs.declared.Shape.{Shape}
-use Rattle.bit_matrix.specs.Shape.{size}
 use Rattle.bit_matrix.specs.ShapeClauses.{Image}
 use Rattle.bit_matrix.specs.Pixels.{offset}
 use Rattle.bit_matrix_nine.specs.AreaWords.{ones, TakenBits, HalfBlack, nineOf}

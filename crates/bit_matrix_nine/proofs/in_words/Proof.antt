@@ -1,5 +1,5 @@
 -- `bit_matrix_nine::in_words` meets its contract: only the last return can be true, after every test. Assumes nothing.
-use Prim.Native.Nat.{ℕ, _+_, _-_, _%_, _≤_, _<_}
+use Prim.Native.Nat.{ℕ, _-_, _%_, _≤_, _<_}
 use mathlib.Core.Bool.{true, false≢true}
 use mathlib.Core.Path.{_≡_}
 use native.Mathlib.Omega.{arith}
