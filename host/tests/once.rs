@@ -1,6 +1,6 @@
 //! Checks on what is compiled, by the calls in the output of `rt mir`, that a scale makes its boundary once, before the loop over the degrees, and that a
 //! degree looks up its sine and cosine once, before the loop over the points. A look-up is a call of `sines::sine`, which alone indexes the table (source.rs).
-//! Without rt it is skipped.
+//! Without rt both are skipped.
 use std::{
     io::{self, Write},
     path::Path,
@@ -81,6 +81,12 @@ fn compiled() -> Option<&'static [Call]> {
     CALLS.get_or_init(printed).as_deref()
 }
 
+/// What a function calls, in the order of its text.
+fn called<'a>(calls: &'a [Call], from: &str) -> Vec<&'a str> {
+    let from = calls.iter().filter(|call| call.from == from);
+    from.map(|call| call.to.as_str()).collect()
+}
+
 /// Callers of a function, each with its loops.
 fn callers<'a>(calls: &'a [Call], to: &str) -> Vec<(&'a str, usize)> {
     let to = calls.iter().filter(|call| call.to == to);
@@ -106,6 +112,10 @@ fn reached<'a>(calls: &'a [Call], from: &'a str) -> Vec<&'a str> {
 fn a_scale_makes_its_boundary_once_before_its_degrees() {
     let Some(calls) = compiled() else { return };
     assert_eq!(callers(calls, ATTEMPT), [(TRY_SCALES, 1)]);
+    assert_eq!(
+        called(calls, ATTEMPT),
+        [SCALED_BOUNDARY, POINTS, TRY_DEGREES]
+    );
     assert_eq!(callers(calls, SCALED_BOUNDARY), [(ATTEMPT, 0)]);
     assert_eq!(
         callers(calls, PLAIN_BOUNDARY),
@@ -113,7 +123,7 @@ fn a_scale_makes_its_boundary_once_before_its_degrees() {
     );
     let simple = callers(calls, "detector_boundary::calculate_simple_boundary");
     assert_eq!(simple, [(PLAIN_BOUNDARY, 0), (SCALED_BOUNDARY, 0)]);
-    // the points have the boundary and make none, from a circle's size or otherwise
+    // the points have the boundary, and call nothing outside their crate
     assert_eq!(callers(calls, POINTS), [(ATTEMPT, 0)]);
     for name in reached(calls, POINTS) {
         assert!(name.starts_with("detector_points::"), "{name}");
@@ -134,6 +144,7 @@ fn a_degree_looks_up_its_sine_and_cosine_once_before_its_points() {
         .filter(|(from, _)| reached(calls, TRY_DEGREES).contains(from))
         .collect();
     assert_eq!(of_degrees, [(TRY_OFFSETS, 1)]);
+    assert_eq!(called(calls, TRY_OFFSETS), [ANGLE_OF, TEST_DEGREE]);
     assert_eq!(callers(calls, "sines::cosine"), [(ANGLE_OF, 0)]);
     let mut sines = callers(calls, "sines::sine");
     sines.sort_unstable();

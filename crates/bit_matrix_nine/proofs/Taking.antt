@@ -36,7 +36,7 @@ three-digits n a b c e f g =
       ap (λ (v : ℕ). v % 2) (shr-shr n 1 1),
     )
 
--- bit j of word q, by the word shifted to bit p
+-- bit p + j of word q is bit j of the word shifted by p
 shifted-bit : (q p j : ℕ) (words : List ℕ) → p + j < 64 → digit (bitAt words (q * 64 + (p + j))) ≡ getD words q 0 / 2 ^ p / 2 ^ j % 2
 unfolding bitAt
 shifted-bit q p j words h =

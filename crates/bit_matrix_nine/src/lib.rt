@@ -42,7 +42,8 @@ fn take_three(words: &[u64], marks: &mut [u64], offset: usize, shift: u32) -> u6
 // Bit odd + 8 * pairs is set where the digits of `odd` and twice those of `pairs` come to five or more.
 const FIVE_OF_NINE: u64 = 0xfffe_fe80_fe80_8000;
 
-// Whether five of nine pixels are black, in rows of three digits. `odd` has a digit for each column of one or three, `pairs` for each of two or three.
+// Whether at least five of nine pixels are black, given as three rows of three digits. `odd` has a digit for each column with one or three black pixels,
+// `pairs` for each with two or three.
 fn five_of_nine(a: u64, b: u64, c: u64) -> bool
     requires { ⌜ (a < 8) × (b < 8) × (c < 8) ⌝ }
     ensures { λ r. ⌜ r ≡ leb 9 (2 * (ones a + ones b + ones c)) ⌝ }

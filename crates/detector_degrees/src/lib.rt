@@ -25,7 +25,7 @@ fn coordinate_of(point: PointU, row: bool) -> u32
     if row { point.y } else { point.x }
 }
 
-// How far it lies past the centre's.
+// How far a point's column, or its row, lies past the centre's.
 fn offset_past(center: f32, point: PointU, row: bool) -> f32
     ensures { λ r. ⌜ r ≡ offsetPast center row point ⌝ }
 {
@@ -43,7 +43,7 @@ fn list_group(offsets: &mut [f32; 18], first: usize, center: f32, group: [PointU
     offsets[first + 2] = offset_past(center, group[2], row);
 }
 
-// How far each point's column lies past the centre's, or its row. Made once, it serves all degrees.
+// The same of all eighteen points. Made once, it serves all degrees.
 fn offsets_past(center: f32, groups: [[PointU; 3]; 6], row: bool) -> [f32; 18]
     ensures { λ r. ⌜ EachPoint (λ (k : ℕ). offsetPast center row (pointOf groups k)) r ⌝ }
 {

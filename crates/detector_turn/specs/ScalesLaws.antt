@@ -8,7 +8,7 @@ use borrow.Author.Tests.{leb-false}
 use lib.Dec.{T, leb}
 use lib.Ieee.{Float, nan, binary32, ofBits, ofInt, toBits, le}
 use lib.ListN.{getD}
-use Rattle.reads.specs.Every.{every-at}
+use Rattle.reads.specs.EveryLaws.{every-at}
 use Rattle.reads.specs.Reads.{Reads, done}
 use Rattle.reads.specs.ReadsLaws.{Always, always-done, always-bind, always-after, always-cond}
 use Rattle.bit_matrix.specs.declared.Shape.{Shape}

@@ -15,7 +15,7 @@ use Rattle.bit_matrix.specs.ShapeClauses.{Limits}
 use Rattle.sines.specs.declared.Angle.{Angle}
 use Rattle.sines.specs.Sines.{sineOf, angleOf}
 use Rattle.sines.specs.Laws.{scaled, scaledSine, scaledCosine, negative, sine-mod, sine-mod-add, sine-rules}
-use Rattle.reads.specs.Every.{every, every-at}
+use Rattle.reads.specs.EveryLaws.{every, every-at}
 use Rattle.detector_walks.specs.WalksClauses.{OfDegree}
 
 -- Within so many steps a walk to the right has ended, by the sine in units of 2 ^ -29. Where it is 0 the row stays, and the columns of all words are

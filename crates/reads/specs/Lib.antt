@@ -1,5 +1,5 @@
 -- `Reads`, `Bits`, `Total` and `Runs` have the definitions, `RunsClauses` what the clauses of functions name, the others laws. `Demand3` has the two
--- of demand 3, `Every` a test that is computed for all numbers below a bound.
+-- of demand 3, `EveryLaws` a test that is computed for all numbers below a bound.
 pub mod Reads
 pub mod ReadsLaws
 pub mod Bits
@@ -11,4 +11,4 @@ pub mod Runs
 pub mod RunsClauses
 pub mod RunsLaws
 pub mod Demand3
-pub mod Every
+pub mod EveryLaws

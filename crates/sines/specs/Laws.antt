@@ -10,7 +10,7 @@ use lib.Ieee.{Float, nan, inf, fin, up, down, ofBits}
 use lib.Ieee.Fits.{and-l, and-r}
 use lib.Ieee.Exact.{HasValue}
 use Rattle.sines.specs.Sines.{sineOf, cosineOf}
-use Rattle.reads.specs.Every.{every, every-at, same-truth}
+use Rattle.reads.specs.EveryLaws.{every, every-at, same-truth}
 
 -- ---- the rules
 -- a value scaled by 2 ^ 29, cut to a whole number

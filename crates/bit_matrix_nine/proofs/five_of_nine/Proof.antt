@@ -6,12 +6,12 @@ use native.Mathlib.Omega.{arith}
 use lib.Arith.{digits-div, digits-mod}
 use lib.Bits.{bitAnd, bitOr, bitXor, and-lt, or-lt, xor-lt}
 use lib.Dec.{eqb, leb}
-use Rattle.reads.specs.Every.{every-at, same-truth}
+use Rattle.reads.specs.EveryLaws.{every-at, same-truth}
 use Rattle.bit_matrix_nine.specs.AreaWords.{ones}
 use Rattle.bit_matrix_nine.proofs.five_of_nine.Statement.{statement}
 use Rattle.bit_matrix_nine.proofs.five_of_nine.Tie as tie
 
--- the code's two sums of the columns, and its answer
+-- the code's two numbers, and its answer
 abbrev odd : ℕ → ℕ → ℕ → ℕ
 odd a b c = bitXor (bitXor a b) c
 

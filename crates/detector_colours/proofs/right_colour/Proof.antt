@@ -5,7 +5,7 @@ use mathlib.Core.Path.{_≡_}
 use borrow.Author.Needs.{needs}
 use lib.Bits.{bitAnd}
 use lib.Dec.{eqb}
-use Rattle.reads.specs.Every.{every-at, same-truth}
+use Rattle.reads.specs.EveryLaws.{every-at, same-truth}
 use Rattle.detector_colours.specs.Colours.{rightColour}
 use Rattle.detector_colours.proofs.right_colour.Statement.{statement}
 use Rattle.detector_colours.proofs.right_colour.Tie as tie
