@@ -50,17 +50,18 @@
 #define MAXICODE_FIELD_COLUMN_RUNS 14   /* pixels: eleven runs of the column */
 #define MAXICODE_FIELD_VARIANCE 25      /* f32 bits: how far the runs are from even; records are ranked by it, least first */
 #define MAXICODE_FIELD_OUTCOME 26       /* one of the outcomes below */
-#define MAXICODE_FIELD_SCALE 27         /* 1 to 5: the scale that gave the turn or lost the centre; 0 without */
+#define MAXICODE_FIELD_SCALE 27         /* 1 to 5: the scale that gave the turn or lost the centre; 0 without either */
 #define MAXICODE_FIELD_ROTATION 28      /* f32 bits: degrees, 0 to 348, even; 0 without a turn */
 #define MAXICODE_FIELD_LAST_CENTER_X 29 /* pixels: the last centre inside the image */
 #define MAXICODE_FIELD_LAST_CENTER_Y 30 /* pixels */
-#define MAXICODE_FIELD_CORNERS 31       /* f32 bits: left bottom, left top, right bottom, right top, x before y */
+#define MAXICODE_FIELD_CORNERS 31       /* f32 bits: left bottom, left top, right bottom, right top, x before y; 0 for an ellipse */
 #define MAXICODE_FIELD_CLASS 39         /* 0 to 3: the handling class */
 
-/* Outcomes. */
+/* Outcomes; an ellipse only where the check is asked for. */
 #define MAXICODE_OUTCOME_NO_TURN 0     /* no turn */
 #define MAXICODE_OUTCOME_TURNED 1      /* turned */
 #define MAXICODE_OUTCOME_LOST_CENTRE 2 /* lost centre */
+#define MAXICODE_OUTCOME_ELLIPSE 3     /* ellipse */
 
 #ifdef __cplusplus
 extern "C" {
@@ -83,13 +84,17 @@ uint32_t maxicode_unpack(const uint8_t *file, size_t file_len, uint64_t *words, 
 
 /* Searches an image in words: each row starts a word, column c is bit c mod 64 of the row's word c / 64, 1 is black. The capacity is
  * the number of whole records lent, MAXICODE_MOST_CANDIDATES at most. The marks, as many words as the image has, get a one for each bit
- * that was read. Once searched, whole records from the kept ones to the capacity are zeros; words beyond are left as they were. */
+ * that was read. Once searched, whole records from the kept ones to the capacity are zeros; words beyond are left as they were.
+ * `ellipse` is 0, or any other number to have each kept record checked for an ellipse: one gets MAXICODE_OUTCOME_ELLIPSE and no box.
+ * The check reads more, and at worst a search takes a hundred times longer. */
 struct maxicode_report maxicode_search_words(const uint64_t *words, size_t words_len, uint32_t width, uint32_t height,
-                                             uint32_t *records, size_t records_len, uint64_t *marks, size_t marks_len);
+                                             uint32_t *records, size_t records_len, uint64_t *marks, size_t marks_len,
+                                             uint32_t ellipse);
 
-/* Searches a crop file, which it unpacks into `words`, of exactly the image's number. */
+/* Searches a crop file, which it unpacks into `words`, of exactly the image's number; `ellipse` as above. */
 struct maxicode_report maxicode_search_file(const uint8_t *file, size_t file_len, uint64_t *words, size_t words_len,
-                                            uint32_t *records, size_t records_len, uint64_t *marks, size_t marks_len);
+                                            uint32_t *records, size_t records_len, uint64_t *marks, size_t marks_len,
+                                            uint32_t ellipse);
 
 /* Reads the cells of a lone symbol in an image in words: MAXICODE_CELL_ROWS rows, a word each, of MAXICODE_CELL_COLUMNS cells, column c
  * at bit c, 1 is black; the bits above are zeros. The cells lie in the enclosing rectangle of the black pixels; docs/MANUAL.md says

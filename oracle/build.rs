@@ -5,7 +5,9 @@
 //! | bits      | field `marks`, in struct and makers     | logged reads: where the marks are held           |
 //! | bits      | a mark before each look at a stored bit | logged reads: in `get` and in `try_get`          |
 //! | detector  | `to_radians` by a table look-up         | the table of sines; cosine is the sine 90° on    |
-//! | detector  | `powf(2.0)` by a product                | the square as a product, in the deviation only   |
+//! | detector  | `powf(2.0)` by a product                | the square as a product: deviation, ellipse      |
+//! | detector  | the feature's two attributes            | the ellipse check is compiled in                 |
+//! | detector  | a test before the ellipse check         | it runs when the call's option is on, else not   |
 //! | detector  | field `trace` in struct and maker       | lost centre: which scale, which outcome          |
 //! | detector  | a test after the centre's correction    | lost centre: the scale ends, centre put back     |
 //! | detector  | a test before each scale                | lost centre: no more scales                      |
@@ -84,6 +86,17 @@ const DETECTOR: &[Replacement] = &[
     ("GridSampler, Quadrilateral, ", 1, ""),
     ("angle.to_radians()", 1, "Turn::of(angle)"),
     ("_mean).powf(2.0)", 2, "_mean).square()"),
+    ("f64).powf(2.0)", 4, "f64).square()"),
+    ("#[cfg(feature = \"experimental_features\")]", 2, ""),
+    (
+        "circle.detect_ellipse();",
+        1,
+        "if circle.trace.ellipse {
+        circle.detect_ellipse()
+    } else {
+        Default::default()
+    };",
+    ),
     (
         "struct Circle<'a> {",
         1,
@@ -147,8 +160,8 @@ const DETECTOR: &[Replacement] = &[
     ),
 ];
 
-/// Features that the source names; none is on.
-const FEATURES: &str = r#""experimental_features", "image", "serde", "svg_write""#;
+/// Features that the prepared text names; none is on.
+const FEATURES: &str = r#""image", "serde", "svg_write""#;
 
 /// Not replaced, only counted: the two constants that the harness states itself.
 const READER_FACTS: [(&str, usize); 2] = [

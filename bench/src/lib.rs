@@ -75,7 +75,7 @@ unsafe extern "C" {
         marks_len: usize,
         numbers: &[u32; 4],
         degree: u32,
-        out: &mut [u32; 4],
+        out: &mut [u32; 5],
     ) -> u32;
 
     // width, height, the centre's column and row
@@ -225,13 +225,13 @@ pub fn try_get_area(image: Image, marks: &mut [u64], (x, y): (u32, u32)) -> Opti
     })
 }
 
-/// The bits of the ends of the walks to the left and to the right, each x then y.
+/// The steps of the walks to the left and to the right together, then the bits of their ends, each x then y.
 pub fn find_width_at_degree(
     image: Image,
     marks: &mut [u64],
     (x, y): (u32, u32),
     degree: u32,
-) -> Option<[u32; 4]> {
+) -> Option<[u32; 5]> {
     filled(|out| unsafe {
         step_find_width_at_degree(
             image.words.as_ptr(),

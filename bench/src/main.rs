@@ -6,6 +6,8 @@
 //! and fills the records. The logged Rust clears its log, marks every bit that it reads there, and counts the marks, as a
 //! search that must report them has to; the Rust without its log does none of this. All buffers are made beforehand.
 //!
+//! With the ellipse check both have it on, and the product is timed without it too.
+//!
 //! Of cells the product is `maxicode_cells_words`, which checks image and buffer. The source is its `read_bits` on a prepared image, which
 //! makes a bit matrix of its own; that is put into 33 words only to be compared. No marks are asked for: the logged Rust sets those of the pixels
 //! that it samples, and neither clears nor counts them.
@@ -29,15 +31,16 @@ use bench::clock;
 use sets::Set;
 
 const HELP: &str = "\
-Usage: bench [whole | phases | cells | steps] [TEXT]
+Usage: bench [whole | ellipse | phases | cells | steps] [TEXT]
 
 Times the product and the Rust on the same crops, and prints Markdown tables:
   whole   the whole search of each set of crops: microseconds a crop, and the ratios of the product's time to the Rust's,
           with its log and without
+  ellipse the same with the ellipse check, of these sets, stretched eyes and long walks; and the ratio to the product without the check
   phases  the phases of the search apart: microseconds a crop, and the same two ratios in brackets
   cells   the cells of a symbol that fills the crop: microseconds a crop, and the same two ratios
   steps   each proved step, in nanoseconds an item; the ratio is to the Rust with its log
-Without one of these: whole, phases, cells. TEXT: only the sets or steps with this text in their name.
+Without one of these: whole, ellipse, phases, cells. TEXT: only the sets or steps with this text in their name.
 ";
 
 /// The sets whose name has the text.
@@ -49,7 +52,8 @@ fn named(mut sets: Vec<Set>, text: &str) -> Vec<Set> {
 /// Prints a table of the sets or steps whose name has the text; none if there is no such table.
 fn print(table: &str, text: &str) -> Option<()> {
     match table {
-        "whole" => whole::print(&named(sets::searched(), text)),
+        "whole" => whole::print(&named(sets::searched(), text), false),
+        "ellipse" => whole::print(&named(sets::checked(), text), true),
         "phases" => phases::print(&named(sets::searched(), text)),
         "cells" => cells::print(&named(sets::read(), text)),
         "steps" => steps::print(text),
@@ -58,9 +62,11 @@ fn print(table: &str, text: &str) -> Option<()> {
     Some(())
 }
 
-/// Prints whole, phases and cells, a blank line between two.
+/// Prints whole, ellipse, phases and cells, a blank line between two.
 fn print_all() -> Option<()> {
     print("whole", "")?;
+    println!();
+    print("ellipse", "")?;
     println!();
     print("phases", "")?;
     println!();

@@ -132,7 +132,8 @@ fn unpack(cases: &[Case], crops: usize) -> String {
         &mut || {
             clock::time((), |()| {
                 for (case, b) in cases.iter().zip(&mut lent) {
-                    bullseye::search_file(&case.blank, &mut b.words, &mut b.records, &mut b.marks);
+                    let (records, marks) = (&mut b.records, &mut b.marks);
+                    bullseye::search_file(&case.blank, &mut b.words, records, marks, false);
                 }
             })
         },
@@ -140,7 +141,8 @@ fn unpack(cases: &[Case], crops: usize) -> String {
             clock::time((), |()| {
                 for (case, b) in cases.iter().zip(&mut other) {
                     let (width, height) = (case.crop.width, case.crop.height);
-                    bullseye::search_words(&b.words, width, height, &mut b.records, &mut b.marks);
+                    let (records, marks) = (&mut b.records, &mut b.marks);
+                    bullseye::search_words(&b.words, width, height, records, marks, false);
                 }
             })
         },
@@ -266,7 +268,7 @@ fn line(set: &Set) -> String {
     let crops = set.crops.len();
     let mut cases: Vec<_> = set.crops.iter().map(Case::of).collect();
     for case in &cases {
-        whole::agreed(case.crop);
+        whole::agreed(case.crop, false);
         agreed::<Logged>(case);
         agreed::<Plain>(case);
         unpacked_alike(case);

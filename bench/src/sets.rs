@@ -113,6 +113,16 @@ fn grid() -> Crop {
     with_room(eyes, 400)
 }
 
+/// Two rows of crosses at the bottom: nothing stops a walk that leaves one between two arms, and many go up to row 0 and down again.
+fn crosses() -> Crop {
+    painted(192, 2048, |x, y| {
+        let (across, down) = ((x % 20).abs_diff(12), (y % 48).abs_diff(32));
+        let (least, most) = (across.min(down), across.max(down));
+        let inside = x < 180 && (1936..2032).contains(&y);
+        inside && least == 0 && most % 2 == 1 && most < 6
+    })
+}
+
 /// Every window of eleven pixels is a candidate, so that the records are soon full.
 fn checkerboard() -> Crop {
     with_room(painted(2048, 250, |x, y| (x + y) % 2 == 1), 1024)
@@ -162,6 +172,31 @@ pub fn searched() -> Vec<Set> {
     sets.extend(plain());
     sets.push(Set::one("grid of 400 eyes", grid()));
     sets.push(Set::one("checkerboard", checkerboard()));
+    sets
+}
+
+/// The first crops of a family of the ellipse check, with room for their candidates.
+fn for_ellipses(name: &'static str) -> Vec<Crop> {
+    assert!(generate::ELLIPSES.contains(&name), "no family {name}");
+    (0..)
+        .map(generate::ellipse)
+        .filter(|crop| crop.family == name)
+        .map(|crop| with_room(crop, RECORDS))
+        .take(HANDFUL)
+        .collect()
+}
+
+/// The sets that are searched with the ellipse check: those that are searched, stretched eyes, and long walks.
+pub fn checked() -> Vec<Set> {
+    let mut sets = searched();
+    sets.push(Set::of("stretched eyes", for_ellipses("stretched")));
+    sets.push(Set::of(
+        "eyes about four fifths",
+        for_ellipses("four fifths"),
+    ));
+    sets.push(Set::of("eyes cut off", for_ellipses("cut off")));
+    sets.push(Set::of("long eyes", for_ellipses("long")));
+    sets.push(Set::one("crosses, tall", crosses()));
     sets
 }
 

@@ -8,7 +8,8 @@ use oracle::harness::{logged, plain};
 pub trait Source {
     fn new(crop: &Crop) -> Self;
 
-    fn search(&self, records: &mut [u32]) -> Report;
+    /// With the ellipse check or without.
+    fn search(&self, records: &mut [u32], ellipse: bool) -> Report;
 
     fn cells(&self, cells: &mut [u32]) -> u32;
 
@@ -34,8 +35,8 @@ macro_rules! source {
                 })
             }
 
-            fn search(&self, records: &mut [u32]) -> Report {
-                self.search(records)
+            fn search(&self, records: &mut [u32], ellipse: bool) -> Report {
+                self.search(records, ellipse)
             }
 
             fn cells(&self, cells: &mut [u32]) -> u32 {

@@ -9,7 +9,7 @@ use crate::sets::Set;
 const LEAST_RUN: f64 = 300_000.0;
 
 /// Prints a table with a line for each set.
-pub fn print(header: &str, sets: &[Set], line: fn(&Set) -> String) {
+pub fn print(header: &str, sets: &[Set], line: impl Fn(&Set) -> String) {
     println!("{header}");
     for set in sets {
         println!("{}", line(set));
@@ -31,24 +31,18 @@ pub fn answers(all: &[u32]) -> String {
     counts.join(", ")
 }
 
-/// The last five columns: microseconds for each of so many crops, by the product, the logged Rust and the Rust without its log, and the
-/// ratio after each of these two. A run calls all crops once.
-pub fn columns(crops: usize, [ours, logged, plain]: [&mut dyn FnMut(); 3]) -> String {
-    let once = clock::time((), |()| ours());
+/// The last columns: microseconds for each of so many crops, by the first run, which is the product's, and by each of the others with the
+/// product's ratio to it. A run calls all crops once.
+pub fn columns<const N: usize>(crops: usize, mut runs: [&mut dyn FnMut(); N]) -> String {
+    let once = clock::time((), |()| runs[0]());
     let often = (LEAST_RUN / once).ceil() as usize;
-    let repeated = |run: &mut dyn FnMut()| clock::time((), |()| (0..often).for_each(|_| run()));
-    let [ours, logged, plain] = clock::alternate([
-        &mut || repeated(ours),
-        &mut || repeated(logged),
-        &mut || repeated(plain),
-    ]);
+    let mut timed = runs.map(|run| move || clock::time((), |()| (0..often).for_each(|_| run())));
+    let times = clock::alternate(timed.each_mut().map(|run| run as &mut dyn FnMut() -> f64));
     let each = |times: &[f64]| clock::median(times) / (often * crops) as f64 / 1000.0;
-    format!(
-        "{:.2} | {:.2} | {} | {:.2} | {}",
-        each(&ours),
-        each(&logged),
-        Ratio::of(&ours, &logged),
-        each(&plain),
-        Ratio::of(&ours, &plain),
-    )
+    let mut columns = format!("{:.2}", each(&times[0]));
+    for other in &times[1..] {
+        let ratio = Ratio::of(&times[0], other);
+        columns += &format!(" | {:.2} | {ratio}", each(other));
+    }
+    columns
 }

@@ -83,23 +83,30 @@ pub const FIELDS: &[Field] = &[
     field("CLASS", CLASS, 1, Unit::Code),
 ];
 
-/// How a search for the turn ended.
+/// How a search for the turn ended; an ellipse, with the option on, is not searched for one.
 #[derive(Clone, Copy, Debug, PartialEq, Eq)]
 pub enum Outcome {
     NoTurn,
     Turned,
     LostCentre,
+    Ellipse,
 }
 
 impl Outcome {
     /// In the order in which they are shown.
-    pub const ALL: [Outcome; 3] = [Outcome::Turned, Outcome::NoTurn, Outcome::LostCentre];
+    pub const ALL: [Outcome; 4] = [
+        Outcome::Turned,
+        Outcome::NoTurn,
+        Outcome::LostCentre,
+        Outcome::Ellipse,
+    ];
 
     pub fn words(self) -> &'static str {
         match self {
             Outcome::NoTurn => "no turn",
             Outcome::Turned => "turned",
             Outcome::LostCentre => "lost centre",
+            Outcome::Ellipse => "ellipse",
         }
     }
 
@@ -109,6 +116,7 @@ impl Outcome {
             Outcome::NoTurn => 0,
             Outcome::Turned => 1,
             Outcome::LostCentre => 2,
+            Outcome::Ellipse => 3,
         }
     }
 
@@ -153,7 +161,7 @@ pub struct Record {
     pub rotation: f32,
     /// The last centre inside the image.
     pub centre: (u32, u32),
-    /// (left, bottom), (left, top), (right, bottom), (right, top).
+    /// (left, bottom), (left, top), (right, bottom), (right, top); zeros for an ellipse.
     pub corners: [Point; 4],
     pub class: u32,
 }
@@ -202,8 +210,8 @@ mod tests {
             words[place] = word;
             Record::of_words(&words).map_err(|unknown| unknown.to_string())
         };
-        assert_eq!(said(OUTCOME, 2).unwrap().outcome, Outcome::LostCentre);
-        assert_eq!(said(OUTCOME, 3), Err("unknown outcome: 3".into()));
+        assert_eq!(said(OUTCOME, 3).unwrap().outcome, Outcome::Ellipse);
+        assert_eq!(said(OUTCOME, 4), Err("unknown outcome: 4".into()));
         assert_eq!(said(CLASS, 3).unwrap().class, 3);
         assert_eq!(said(CLASS, 4), Err("unknown class: 4".into()));
     }

@@ -9,6 +9,9 @@
 /* Records lent: a crop with more candidates is answered with 7. */
 enum { RECORDS = 16 };
 
+/* 1 to have each kept record checked for an ellipse, which takes longer. */
+enum { ELLIPSE = 0 };
+
 /* The file's first bytes, as many as decide its answer; 0 when it cannot be read. */
 static int read_file(const char *name, uint8_t *file, size_t *length) {
     FILE *stream = fopen(name, "rb");
@@ -29,6 +32,8 @@ static void print_record(const uint32_t *record) {
            record[MAXICODE_FIELD_RADIUS]);
     if (record[MAXICODE_FIELD_OUTCOME] == MAXICODE_OUTCOME_TURNED)
         printf(" turned by %.0f degrees", maxicode_float(record[MAXICODE_FIELD_ROTATION]));
+    if (record[MAXICODE_FIELD_OUTCOME] == MAXICODE_OUTCOME_ELLIPSE)
+        printf(" an ellipse");
     printf(" class %u\n", record[MAXICODE_FIELD_CLASS]);
 }
 
@@ -52,7 +57,7 @@ int main(int argc, char **argv) {
     /* Words and marks must have exactly the image's length. */
     size_t size = maxicode_image_words(maxicode_file_width(file), maxicode_file_height(file));
     struct maxicode_report report =
-        maxicode_search_file(file, length, words, size, records, RECORDS * MAXICODE_RECORD_WORDS, marks, size);
+        maxicode_search_file(file, length, words, size, records, RECORDS * MAXICODE_RECORD_WORDS, marks, size, ELLIPSE);
     printf("answer %u, found %u, kept %u, read %u bits\n", report.answer, report.found, report.kept, report.marked);
     for (uint32_t i = 0; i < report.kept; i++)
         print_record(records + i * MAXICODE_RECORD_WORDS);

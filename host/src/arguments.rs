@@ -20,6 +20,7 @@ pub struct Arguments {
     pub redacted: bool,
     pub check: bool,
     pub write: bool,
+    pub ellipse: bool,
 }
 
 /// The options of a command that reads many files.
@@ -58,6 +59,7 @@ impl Arguments {
             "--redacted" => self.redacted = true,
             "--check" => self.check = true,
             "--write" => self.write = true,
+            "--ellipse" => self.ellipse = true,
             _ => unreachable!("a command takes {word}, which has no meaning"),
         }
         Ok(())

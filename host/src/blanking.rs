@@ -16,12 +16,12 @@ pub struct Blanked {
     pub difference: Option<String>,
 }
 
-/// Blanks an image that was searched, and searches again.
+/// Blanks an image that was searched, and searches again, with the ellipse check where it was on.
 pub fn blanked(mut image: Image, run: &Run) -> Result<Blanked, Unknown> {
     let kept = Kept::of(&image, run);
     let whitened = blank(&mut image, run);
     let file = image.file();
-    let after = run::search(&file)?;
+    let after = run::search(&file, run.ellipse)?;
     Ok(Blanked {
         difference: difference(run, &after),
         file,
@@ -70,7 +70,7 @@ mod tests {
         let run = || {
             let mut file = vec![0x10, 0x21, 0x02, 0x10];
             file.resize(169, 0);
-            run::search(&file).expect("a known answer")
+            run::search(&file, false).expect("a known answer")
         };
         let mut changed = run();
         change(&mut changed);

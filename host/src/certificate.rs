@@ -19,6 +19,9 @@ const FORMAT: &str = "1";
 /// The program with its version.
 pub const PRODUCT: &str = concat!("bullseye ", env!("CARGO_PKG_VERSION"));
 
+/// The line of a certificate whose searches had the ellipse check; others do not have it.
+const ELLIPSE: &str = "ellipse check: on";
+
 /// What precedes the rows of the kept pixels.
 const KEPT: &str = "kept pixels, in the same way, 1 is kept:";
 const END: &str = "end";
@@ -33,6 +36,8 @@ pub struct Certificate {
     /// The file that the crop came from.
     pub name: String,
     pub kind: Kind,
+    /// Whether its searches had the ellipse check.
+    pub ellipse: bool,
     /// The blanked or redacted crop.
     pub file: Vec<u8>,
 }
@@ -46,6 +51,10 @@ pub fn text(kind: Kind, (product, name): (&str, &str), image: &Image, run: &Run)
         marked,
     } = run.seen.report;
     let meaning = run.seen.answer.meaning;
+    let option = match run.ellipse {
+        true => format!("{ELLIPSE}\n"),
+        false => String::new(),
+    };
     let (about, marked, map) = match kind {
         Kind::Blanked => (
             sizes(image, run),
@@ -59,7 +68,7 @@ pub fn text(kind: Kind, (product, name): (&str, &str), image: &Image, run: &Run)
         ),
     };
     format!(
-        "{TITLE}{FORMAT}\nproduct: {product}\nname: {name}\nkind: {}\n{}{about}\
+        "{TITLE}{FORMAT}\nproduct: {product}\nname: {name}\nkind: {}\n{option}{}{about}\
 answer: {answer} {meaning}\nfound: {found}\nkept: {kept}\n{marked}{}{}\n{}{map}{END}\n",
         kind.word(),
         kind.worth(),
@@ -149,6 +158,7 @@ pub fn parse(bytes: &[u8]) -> Result<Certificate, String> {
     let name = value(lines.next(), "name")?;
     let kind = value(lines.next(), "kind")?;
     let kind = Kind::of_word(&kind).ok_or(format!("its kind is {kind}, which is not known"))?;
+    let ellipse = lines.clone().next() == Some(ELLIPSE);
     if text.lines().last() != Some(END) {
         return Err(format!("it does not end with the line `{END}`"));
     }
@@ -165,6 +175,7 @@ pub fn parse(bytes: &[u8]) -> Result<Certificate, String> {
             product,
             name,
             kind,
+            ellipse,
             file,
         }),
     }

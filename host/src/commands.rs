@@ -36,6 +36,17 @@ names that begin with a dot are left out.
 }
 use files_help;
 
+/// What `--ellipse` does, in the help of each command that takes it.
+macro_rules! ellipse_help {
+    () => {
+        "\
+--ellipse  checks each kept record for an ellipse first: one has outcome 3, class 0, no turn, and zeros for a box. The check reads more
+           pixels; mostly a search takes up to twice as long, at worst a hundred times
+"
+    };
+}
+use ellipse_help;
+
 /// A command of the program.
 pub struct Command {
     pub name: &'static str,
@@ -69,24 +80,25 @@ pub struct Searched {
 }
 
 impl Searched {
-    fn of(path: &OsStr) -> Result<Self, Problem> {
-        Searched::of_bytes(path, &files::read_one(path)?)
+    fn of(path: &OsStr, ellipse: bool) -> Result<Self, Problem> {
+        Searched::of_bytes(path, &files::read_one(path)?, ellipse)
     }
 
-    /// A crop's bytes, searched; the path is for complaints.
-    fn of_bytes(path: &OsStr, file: &[u8]) -> Result<Self, Problem> {
+    /// A crop's bytes, searched with the ellipse check or without; the path is for complaints.
+    fn of_bytes(path: &OsStr, file: &[u8], ellipse: bool) -> Result<Self, Problem> {
         let failed = |reason: String| Problem::Failed(of_file(path, &reason));
-        let searched = Searched::of_file(file).map_err(|unknown| failed(unknown.to_string()))?;
+        let searched = Searched::of_file(file, ellipse);
+        let searched = searched.map_err(|unknown| failed(unknown.to_string()))?;
         searched.map_err(failed)
     }
 
     /// The same, or in words why they are refused.
-    pub fn of_file(file: &[u8]) -> Result<Result<Self, String>, Unknown> {
+    pub fn of_file(file: &[u8], ellipse: bool) -> Result<Result<Self, String>, Unknown> {
         let image = match Image::of_file(file) {
             Ok(image) => image,
             Err(refusal) => return Ok(Err(refusal)),
         };
-        let run = run::search(file)?;
+        let run = run::search(file, ellipse)?;
         Ok(match run.seen.refusal() {
             None => Ok(Searched { image, run }),
             Some(refusal) => Err(refusal),

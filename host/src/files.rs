@@ -103,15 +103,16 @@ pub fn say_each(
     Ok(good)
 }
 
-/// Searches each file and hands what was seen to `take`, after what is refused or cannot be read has been named. True when each was
-/// searched.
+/// Searches each file, with the ellipse check or without, and hands what was seen to `take`, after what is refused or cannot be read has
+/// been named. True when each was searched.
 pub fn search_each(
     inputs: &Inputs,
+    ellipse: bool,
     progress: Progress,
     mut take: impl FnMut(&OsStr, Made<Seen>, &mut Progress) -> Result<(), Problem>,
 ) -> Result<bool, Problem> {
     let mut good = true;
-    let search = |_: &Input, file: &[u8]| run::search(file).map(|run| run.seen);
+    let search = |_: &Input, file: &[u8]| run::search(file, ellipse).map(|run| run.seen);
     each(inputs, progress, search, |input, seen, progress| {
         if let Some(complaint) = run::complaint(&seen) {
             good = false;

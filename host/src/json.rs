@@ -1,9 +1,9 @@
 //! JSON lines: an object for each line of a table.
-use crate::table::{COLUMNS, Cell};
+use crate::table::{COLUMNS, Cell, ELLIPSE};
 
 /// A line as an object with the columns' names.
 pub fn line(row: &[Cell]) -> Vec<u8> {
-    let members: Vec<String> = (COLUMNS.iter().zip(row))
+    let members: Vec<String> = (COLUMNS.iter().chain([&ELLIPSE]).zip(row))
         .map(|(column, cell)| format!("\"{column}\":{}", value(cell)))
         .collect();
     format!("{{{}}}\n", members.join(",")).into_bytes()

@@ -27,6 +27,7 @@ mod tunnel {
             records_len: usize,
             marks: *mut u64,
             marks_len: usize,
+            ellipse: u32,
         ) -> super::Report;
 
         pub fn maxicode_search_file(
@@ -38,6 +39,7 @@ mod tunnel {
             records_len: usize,
             marks: *mut u64,
             marks_len: usize,
+            ellipse: u32,
         ) -> super::Report;
 
         pub fn maxicode_cells_words(
@@ -85,13 +87,15 @@ pub fn unpack(file: &[u8], words: &mut [u64]) -> u32 {
 }
 
 /// Searches an unpacked image for bull's-eyes: rows of ceil(width/64) words, column c at bit c mod 64. A record is 40 words; the
-/// marks, as many words as the image has, tell which of its bits were read.
+/// marks, as many words as the image has, tell which of its bits were read. With `ellipse` each kept record is first checked for an
+/// ellipse, which has no box ([`crops::Outcome::Ellipse`]).
 pub fn search_words(
     words: &[u64],
     width: u32,
     height: u32,
     records: &mut [u32],
     marks: &mut [u64],
+    ellipse: bool,
 ) -> Report {
     // SAFETY: each pointer and the length after it are one slice's, lent for the call.
     unsafe {
@@ -104,16 +108,18 @@ pub fn search_words(
             records.len(),
             marks.as_mut_ptr(),
             marks.len(),
+            ellipse.into(),
         )
     }
 }
 
-/// Searches a crop file, which it unpacks into `words`: as many as the image has.
+/// Searches a crop file, which it unpacks into `words`: as many as the image has; `ellipse` as of [`search_words`].
 pub fn search_file(
     file: &[u8],
     words: &mut [u64],
     records: &mut [u32],
     marks: &mut [u64],
+    ellipse: bool,
 ) -> Report {
     // SAFETY: each pointer and the length after it are one slice's, lent for the call.
     unsafe {
@@ -126,6 +132,7 @@ pub fn search_file(
             records.len(),
             marks.as_mut_ptr(),
             marks.len(),
+            ellipse.into(),
         )
     }
 }

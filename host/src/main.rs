@@ -7,6 +7,7 @@ mod changes;
 mod commands;
 mod counts;
 mod csv;
+mod ellipse;
 mod files;
 mod image;
 mod inputs;

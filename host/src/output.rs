@@ -116,6 +116,14 @@ pub fn of_file(path: &OsStr, reason: &str) -> String {
     format!("{name}: {reason}")
 }
 
+/// What ends a line about searches that had the ellipse check.
+pub fn with_ellipse(ellipse: bool) -> &'static str {
+    match ellipse {
+        true => ", with --ellipse",
+        false => "",
+    }
+}
+
 /// An error of the system, in words.
 pub fn reason(error: &io::Error) -> String {
     match error.kind() {

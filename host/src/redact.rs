@@ -10,7 +10,8 @@ mod blocks;
 /// How far a redaction goes.
 #[derive(Clone, Copy, Debug, PartialEq, Eq)]
 pub enum Extent {
-    /// The rectangle about the box of each kept record stays as the reads left it: a person still sees the symbol.
+    /// The rectangle about the box of each kept record, of an ellipse that about its circle, stays as the reads left it: a person still
+    /// sees the symbol.
     Outside,
     /// Nothing is spared.
     Least,
@@ -49,16 +50,17 @@ pub fn black(words: &[u64]) -> usize {
 }
 
 /// Makes black pixels of an image white for as long as its search gives the same answer, found, kept and record words. The records are
-/// filled by the image's own search; their length decides answer 7. A refused image stays as it is.
+/// filled by the image's own search; their length decides answer 7. A refused image stays as it is. `ellipse` is that of each search.
 pub fn redact(
     words: &mut [u64],
     width: u32,
     height: u32,
     records: &mut [u32],
     extent: Extent,
+    ellipse: bool,
 ) -> Redacted {
     let mut marks = vec![0; words.len()];
-    let report = search_words(words, width, height, records, &mut marks);
+    let report = search_words(words, width, height, records, &mut marks, ellipse);
     let black_before = black(words);
     let mut redacted = Redacted {
         report,
@@ -68,7 +70,7 @@ pub fn redact(
         least: true,
     };
     if crops::answer(report.answer).is_ok_and(|answer| !answer.refused()) {
-        let mut tries = Tries::new(words, (width, height), (report, records), marks);
+        let mut tries = Tries::new(words, (width, height), (report, records), marks, ellipse);
         redacted.least = tries.outside() && (extent == Extent::Outside || tries.inside());
         redacted.searches = tries.searches;
         redacted.black_after = black(words);
@@ -81,6 +83,7 @@ struct Tries<'a> {
     words: &'a mut [u64],
     width: u32,
     height: u32,
+    ellipse: bool,
     report: Report,
     /// The kept records of the image as it was given.
     kept: &'a [u32],
@@ -105,10 +108,12 @@ impl<'a> Tries<'a> {
         (width, height): (u32, u32),
         (report, records): (Report, &'a [u32]),
         marks: Vec<u64>,
+        ellipse: bool,
     ) -> Self {
         let mut tries = Tries {
             width,
             height,
+            ellipse,
             report,
             kept: &records[..report.kept as usize * RECORD_WORDS],
             free: vec![u64::MAX; words.len()],
@@ -239,6 +244,7 @@ impl<'a> Tries<'a> {
             self.height,
             &mut self.records,
             &mut self.marks,
+            self.ellipse,
         );
         same_report(report, self.report) && self.records.starts_with(self.kept)
     }

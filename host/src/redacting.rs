@@ -13,15 +13,16 @@ pub struct Redaction {
     pub difference: Option<String>,
 }
 
-/// Redacts a crop that was searched, and holds what is to be written against it.
+/// Redacts a crop that was searched, and holds what is to be written against it, with the ellipse check where it was on.
 pub fn redaction(crop: &Searched, extent: Extent) -> Result<Redaction, Unknown> {
     let mut image = crop.image.clone();
-    let (width, height) = (image.width, image.height);
+    let (width, height, ellipse) = (image.width, image.height, crop.run.ellipse);
     let mut records = vec![0; RECORD_WORDS * RECORDS];
-    let done = redact(image.words_mut(), width, height, &mut records, extent);
+    let words = image.words_mut();
+    let done = redact(words, width, height, &mut records, extent, ellipse);
     let file = image.file();
     Ok(Redaction {
-        difference: match Searched::of_file(&file)? {
+        difference: match Searched::of_file(&file, ellipse)? {
             Ok(after) => difference(crop, &after),
             Err(refusal) => Some(format!("the answer: {refusal}")),
         },

@@ -54,11 +54,13 @@ pub struct Run {
     /// All record words, those of kept records first.
     pub buffer: Vec<u32>,
     pub marks: Vec<u64>,
+    /// Whether ellipses were told: runs are held against each other under one setting.
+    pub ellipse: bool,
     width: u32,
 }
 
-/// Searches a crop file; a refused one has no marks.
-pub fn search(file: &[u8]) -> Result<Run, Unknown> {
+/// Searches a crop file, with the ellipse check or without; a refused one has no marks.
+pub fn search(file: &[u8], ellipse: bool) -> Result<Run, Unknown> {
     let (width, words) = match bullseye::check(file) {
         0 => (
             crops::dimensions(file).unwrap_or_default().0,
@@ -68,11 +70,13 @@ pub fn search(file: &[u8]) -> Result<Run, Unknown> {
     };
     let mut buffer = vec![0; RECORD_WORDS * RECORDS];
     let mut marks = vec![0; words];
-    let report = bullseye::search_file(file, &mut vec![0; words], &mut buffer, &mut marks);
+    let mut image = vec![0; words];
+    let report = bullseye::search_file(file, &mut image, &mut buffer, &mut marks, ellipse);
     Ok(Run {
         seen: Seen::of(report, &buffer)?,
         buffer,
         marks,
+        ellipse,
         width,
     })
 }
@@ -106,11 +110,11 @@ mod tests {
 
     #[test]
     fn nothing_unknown_passes_and_nothing_kept_is_dropped() {
-        assert_eq!(said(0, 2, (OUTCOME, 2)), Ok(2));
+        assert_eq!(said(0, 2, (OUTCOME, 3)), Ok(2));
         assert_eq!(said(0, 2, (CLASS, 3)), Ok(2));
         assert_eq!(said(0, 1, (CLASS, 4)), Ok(1));
         for (answer, kept, word, error) in [
-            (0, 2, (OUTCOME, 3), "unknown outcome: 3"),
+            (0, 2, (OUTCOME, 4), "unknown outcome: 4"),
             (0, 2, (CLASS, 4), "unknown class: 4"),
             (0, 3, (CLASS, 0), "unknown number of kept records: 3"),
             (10, 0, (CLASS, 0), "unknown answer: 10"),

@@ -9,7 +9,7 @@ mod write;
 pub use read::read;
 pub use write::{Cell, csv_line, header, rows};
 
-/// The columns: those of the file, of a record from RECORD on, and why a file could not be read.
+/// The columns: those of the file, of a record from RECORD on, and why a file could not be read; then, where it is there, ELLIPSE.
 pub const COLUMNS: [&str; 25] = [
     "file",
     "answer",
@@ -37,6 +37,12 @@ pub const COLUMNS: [&str; 25] = [
     "right_top_y",
     "problem",
 ];
+
+/// The last column of a table that was made with the ellipse check, 1 in each line; others do not have it.
+pub const ELLIPSE: &str = "ellipse";
+
+/// What is wrong with tables that cannot be one.
+pub const BOTH_SETTINGS: &str = "a table made with --ellipse beside one made without";
 
 /// The column of a record's number.
 const RECORD: usize = 5;

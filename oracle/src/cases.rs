@@ -1,6 +1,7 @@
 //! Cases in text: the entries of the judge and of the second reading, and left sides made from the generator's crops.
 
 mod cells;
+mod ellipses;
 mod left;
 mod second;
 

@@ -5,8 +5,8 @@ use crate::harness;
 use crate::vectors::SearchFile;
 use crate::{Report, second};
 
-/// An entry that searches an unpacked image of a width and a height.
-pub type SearchWords = fn(&[u64], u32, u32, &mut [u32], &mut [u64]) -> Report;
+/// An entry that searches an unpacked image of a width and a height, with the ellipse check or without.
+pub type SearchWords = fn(&[u64], u32, u32, &mut [u32], &mut [u64], bool) -> Report;
 
 /// An entry that reads the cells of a crop file, which it unpacks.
 pub type CellsFile = fn(&[u8], &mut [u64], &mut [u32]) -> u32;

@@ -5,14 +5,17 @@ mod angle;
 mod canvas;
 mod coverage;
 mod draw;
+mod ellipses;
 mod families;
 mod files;
 mod filling;
+mod half_disc;
 mod painted;
 mod random;
 mod rectangles;
 
 pub use coverage::Coverage;
+pub use ellipses::near_ellipses;
 pub use files::{BAD_FAMILIES, BadFile, bad, bad_file};
 pub use random::Random;
 pub use rectangles::{CellCoverage, rectangle_rows};
@@ -43,6 +46,9 @@ impl Crop {
 
 /// Parts the numbers of `filling` from those of `crop`.
 const FILLING_SALT: u64 = 0x66_696c_6c69_6e67;
+
+/// Parts the numbers of `ellipse` from those of `crop`.
+const ELLIPSE_SALT: u64 = 0x65_6c6c_6970_7365;
 
 /// A family of images: its name, its share of 100, and its maker.
 type Family<T> = (&'static str, u32, fn(&mut Random) -> T);
@@ -80,6 +86,9 @@ pub const FAMILIES: &[&str] = &names(&MAKERS);
 /// The names of the families that `filling` picks from.
 pub const FILLING: &[&str] = &names(&filling::MAKERS);
 
+/// The names of the families that `ellipse` picks from.
+pub const ELLIPSES: &[&str] = &names(&ellipses::MAKERS);
+
 /// The place of the family that the next draw picks.
 fn picked<T>(random: &mut Random, makers: &[Family<T>]) -> usize {
     let mut left = random.below(100);
@@ -100,8 +109,18 @@ pub fn crop(seed: u64) -> Crop {
 
 /// The image of a seed for cells, of a family that the seed picks.
 pub fn filling(seed: u64) -> Crop {
-    let mut random = Random::new(seed ^ FILLING_SALT);
-    let (family, _, maker) = filling::MAKERS[picked(&mut random, &filling::MAKERS)];
+    with_usual_capacity(seed ^ FILLING_SALT, &filling::MAKERS)
+}
+
+/// The image of a seed for the ellipse check, of a family that the seed picks.
+pub fn ellipse(seed: u64) -> Crop {
+    with_usual_capacity(seed ^ ELLIPSE_SALT, &ellipses::MAKERS)
+}
+
+/// The image of a family that a seed picks, with a capacity that owes nothing to it.
+fn with_usual_capacity(seed: u64, makers: &[Family<Canvas>]) -> Crop {
+    let mut random = Random::new(seed);
+    let (family, _, maker) = makers[picked(&mut random, makers)];
     let usual = usual_capacity(&mut random);
     finished(family, maker(&mut random), usual)
 }

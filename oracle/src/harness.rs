@@ -34,23 +34,25 @@ pub fn check(file: &[u8]) -> u32 {
     crop::check_file(file)
 }
 
-/// The logged search of an unpacked image.
+/// The logged search of an unpacked image, with the ellipse check or without.
 pub fn search_words(
     words: &[u64],
     width: u32,
     height: u32,
     records: &mut [u32],
     marks: &mut [u64],
+    ellipse: bool,
 ) -> Report {
-    logged::search_words(words, width, height, records, marks)
+    logged::search_words(words, width, height, records, marks, ellipse)
 }
 
-/// The logged search of a crop file, unpacked into `words`.
+/// The logged search of a crop file, unpacked into `words`, with the ellipse check or without.
 pub fn search_file(
     file: &[u8],
     words: &mut [u64],
     records: &mut [u32],
     marks: &mut [u64],
+    ellipse: bool,
 ) -> Report {
-    logged::search_file(file, words, records, marks)
+    logged::search_file(file, words, records, marks, ellipse)
 }

@@ -9,7 +9,7 @@ use crops::places::{
 };
 use crops::{RECORD_WORDS, RECORDS, Report, words_of};
 
-/// What the program prints for a file, by this search of it.
+/// What the program prints for a file, by this search of it; the program has the ellipse check off.
 pub fn of_file(file: &[u8], search: SearchFile) -> String {
     let length = match crop::check_file(file) {
         0 => words_of(file),
@@ -17,7 +17,7 @@ pub fn of_file(file: &[u8], search: SearchFile) -> String {
     };
     let (mut words, mut marks) = (vec![0; length], vec![0; length]);
     let mut records = vec![0; RECORD_WORDS * RECORDS];
-    let report = search(file, &mut words, &mut records, &mut marks);
+    let report = search(file, &mut words, &mut records, &mut marks, false);
     of_report(report, &records)
 }
 

@@ -3,6 +3,7 @@
 mod boundary;
 mod cells;
 mod center;
+mod ellipse;
 mod file;
 mod image;
 mod kept;
@@ -16,5 +17,6 @@ mod turn;
 mod widths;
 
 pub use cells::{Rectangle, cells_file, cells_words, enclosing_rectangle};
+pub use ellipse::{EllipseVerdict, EllipseWidths, ellipse_widths};
 pub use file::check;
 pub use search::{search_file, search_words, unpack_file};

@@ -1,17 +1,21 @@
-//! Stored vectors: crop files, the lengths of the lent buffers, and what a search must answer and leave.
+//! Stored vectors: crop files, the option, the lengths of the lent buffers, and what a search must answer and leave.
 //!
-//! A pack is a run of vectors. Each is, in little-endian order: a name of 24 bytes padded with zeros; u32 lengths of the
-//! lent words, records and marks and of the file; the u32 report (answer, found, kept, marked); the file's bytes, padded
-//! with zeros to a multiple of 8; then, if the image was accepted (answers 0, 7, 8, 9), the kept records as u32 words
-//! and the marks as u64 words.
+//! A pack is a run of vectors. Each is, in little-endian order: a name of 28 bytes padded with zeros; a u32 that is 1 with the
+//! ellipse check and 0 without; u32 lengths of the lent words, records and marks and of the file; the u32 report (answer, found,
+//! kept, marked); the file's bytes, padded with zeros to a multiple of 8; then, if the image was accepted (answers 0, 7, 8, 9),
+//! the kept records as u32 words and the marks as u64 words.
 
-use crops::{MOST_CANDIDATES, RECORD_WORDS, Report, answer, known, unpacked};
+use crate::second::{EllipseWidths, ellipse_widths};
+use crops::places::{CENTER_X, CENTER_Y};
+use crops::{MOST_CANDIDATES, RECORD_WORDS, Report, answer, dimensions, known, unpacked};
 
-const NAME_BYTES: usize = 24;
+const NAME_BYTES: usize = 28;
 
 #[derive(Clone, Debug, PartialEq, Eq)]
 pub struct Vector {
     pub name: String,
+    /// Whether the ellipse check is on.
+    pub ellipse: bool,
     pub words_len: usize,
     pub records_len: usize,
     pub marks_len: usize,
@@ -21,8 +25,8 @@ pub struct Vector {
     pub marks: Vec<u64>,
 }
 
-/// An entry that searches a crop file.
-pub type SearchFile = fn(&[u8], &mut [u64], &mut [u32], &mut [u64]) -> Report;
+/// An entry that searches a crop file, with the ellipse check or without.
+pub type SearchFile = fn(&[u8], &mut [u64], &mut [u32], &mut [u64], bool) -> Report;
 
 /// The lent buffers. Their first content is a pattern, so that a word that must stay as it was is told from a zero.
 #[derive(Clone, Debug, PartialEq, Eq)]
@@ -43,8 +47,13 @@ impl Lent {
     }
 
     /// The report of a search of `file` in these buffers.
-    pub fn search(&mut self, search: SearchFile, file: &[u8]) -> Report {
-        search(file, &mut self.words, &mut self.records, &mut self.marks)
+    pub fn search(&mut self, search: SearchFile, file: &[u8], ellipse: bool) -> Report {
+        let Lent {
+            words,
+            records,
+            marks,
+        } = self;
+        search(file, words, records, marks, ellipse)
     }
 }
 
@@ -55,14 +64,21 @@ pub fn accepted(number: u32) -> bool {
 
 impl Vector {
     /// The vector that a search of `file` makes.
-    pub fn made(name: &str, file: &[u8], lengths: [usize; 3], search: SearchFile) -> Vector {
+    pub fn made(
+        name: &str,
+        file: &[u8],
+        lengths: [usize; 3],
+        ellipse: bool,
+        search: SearchFile,
+    ) -> Vector {
         let [words_len, records_len, marks_len] = lengths;
         let mut lent = Lent::new(words_len, records_len, marks_len);
-        let report = lent.search(search, file);
+        let report = lent.search(search, file, ellipse);
         let ran = accepted(report.answer);
         lent.records.truncate(report.kept as usize * RECORD_WORDS);
         Vector {
             name: name.to_string(),
+            ellipse,
             words_len,
             records_len,
             marks_len,
@@ -89,7 +105,7 @@ impl Vector {
     /// The first difference between what the vector says and what a search does.
     pub fn replay(&self, search: SearchFile) -> Result<(), String> {
         let mut lent = Lent::new(self.words_len, self.records_len, self.marks_len);
-        let report = lent.search(search, &self.file);
+        let report = lent.search(search, &self.file, self.ellipse);
         let expected = self.expected();
         if report != self.report {
             return Err(format!("{}: {report:?}, not {:?}", self.name, self.report));
@@ -104,6 +120,21 @@ impl Vector {
             first_difference(&lent.records, &expected.records),
         )?;
         place("marks", first_difference(&lent.marks, &expected.marks))
+    }
+
+    /// What the ellipse check goes by, for each kept record where it is on.
+    pub fn ellipse_widths(&self) -> Vec<EllipseWidths> {
+        if !self.ellipse || self.records.is_empty() {
+            return Vec::new();
+        }
+        let (width, height) = dimensions(&self.file).unwrap_or_default();
+        let words = unpacked(&self.file);
+        let about = |record: &[u32]| {
+            let centre = (record[CENTER_X], record[CENTER_Y]);
+            ellipse_widths(&words, width, height, centre)
+        };
+        let records = self.records.chunks_exact(RECORD_WORDS);
+        records.map(about).collect()
     }
 
     /// In words what another run on the same crop and lengths has otherwise.
@@ -127,13 +158,14 @@ impl Vector {
         assert!(name.len() <= NAME_BYTES, "{} is too long", self.name);
         name.resize(NAME_BYTES, 0);
         out.extend(name);
-        let lengths = [
+        let given = [
+            usize::from(self.ellipse),
             self.words_len,
             self.records_len,
             self.marks_len,
             self.file.len(),
         ];
-        out.extend(lengths.iter().flat_map(|&n| (n as u32).to_le_bytes()));
+        out.extend(given.iter().flat_map(|&n| (n as u32).to_le_bytes()));
         let r = self.report;
         out.extend(
             [r.answer, r.found, r.kept, r.marked]
@@ -188,6 +220,7 @@ impl<'a> Cursor<'a> {
     fn vector(&mut self) -> Vector {
         let name = self.take(NAME_BYTES);
         let end = name.iter().position(|&b| b == 0).unwrap_or(NAME_BYTES);
+        let ellipse = self.u32() != 0;
         let [words_len, records_len, marks_len, file_len] = [(); 4].map(|()| self.u32() as usize);
         let [answer, found, kept, marked] = [(); 4].map(|()| self.u32());
         let file = self.take(file_len).to_vec();
@@ -198,6 +231,7 @@ impl<'a> Cursor<'a> {
         };
         Vector {
             name: String::from_utf8_lossy(&name[..end]).into_owned(),
+            ellipse,
             words_len,
             records_len,
             marks_len,

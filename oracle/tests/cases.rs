@@ -21,7 +21,7 @@ fn passes(entries: &Entries) {
     });
     let verdict = verdict.unwrap_or_else(|problem| panic!("{problem}"));
     assert_eq!((verdict.failed, verdict.skipped), (0, 0), "{verdict}");
-    assert!(verdict.passed > 3_000, "{verdict}");
+    assert!(verdict.passed > 3_500, "{verdict}");
 }
 
 #[test]
@@ -48,7 +48,7 @@ fn left_sides_are_those_that_are_made() {
     assert_eq!(lefts(&lines), lefts(&stored("cases.txt")));
 }
 
-/// Each entry comes to each of its answers.
+/// Each entry comes to each of its answers, a search with the ellipse check and without.
 #[test]
 fn all_answers_are_there() {
     let text = stored("cases.txt");
@@ -56,7 +56,10 @@ fn all_answers_are_there() {
     for line in text.lines().filter(|line| !line.starts_with('#')) {
         let (left, right) = line.split_once(" => answer=").expect("an answer");
         Call::parse(left).unwrap_or_else(|problem| panic!("{line}: {problem}"));
-        let entry: Vec<&str> = left.split(['=', ' ']).take(2).collect();
+        let mut entry: Vec<&str> = left.split(['=', ' ']).take(2).collect();
+        if left.ends_with(" ellipse=1") {
+            entry.push("ellipse");
+        }
         let answer: u32 = right.split(' ').next().unwrap_or_default().parse().unwrap();
         seen.insert((entry.join(" "), answer));
     }
@@ -67,6 +70,9 @@ fn all_answers_are_there() {
         ("unpack file", 0..=6),
         ("search file", 0..=9),
         ("search words", 2..=9),
+        ("search file ellipse", 0..=9),
+        ("search words ellipse", 0..=0),
+        ("search words ellipse", 2..=9),
         ("cells file", 0..=6),
         ("cells file", 10..=10),
         ("cells words", 0..=0),

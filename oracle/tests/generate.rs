@@ -3,10 +3,12 @@
 use std::collections::BTreeSet;
 
 use oracle::generate::{
-    BAD_FAMILIES, CellCoverage, Coverage, Crop, FAMILIES, FILLING, bad, bad_file, crop, family,
-    filling,
+    BAD_FAMILIES, CellCoverage, Coverage, Crop, ELLIPSES, FAMILIES, FILLING, bad, bad_file, crop,
+    ellipse, family, filling,
 };
-use oracle::second::{Rectangle, enclosing_rectangle};
+use oracle::second::{
+    EllipseVerdict, EllipseWidths, Rectangle, ellipse_widths, enclosing_rectangle, search_words,
+};
 
 /// FNV-1a over bytes.
 fn digest(mut hash: u64, bytes: &[u8]) -> u64 {
@@ -32,6 +34,7 @@ fn first_crops(maker: fn(u64) -> Crop) -> u64 {
 fn first_crops_have_a_fixed_digest() {
     assert_eq!(first_crops(crop), 0x48a9_29e3_5d60_3358);
     assert_eq!(first_crops(filling), 0xcea1_f40c_4bad_31a7);
+    assert_eq!(first_crops(ellipse), 0x4d43_28ef_3dec_8e1b);
 }
 
 #[test]
@@ -58,6 +61,9 @@ fn limits_hold_and_padding_is_zero() {
     for seed in 0..5000 {
         check_limits(&crop(seed), &format!("seed {seed}"));
         check_limits(&filling(seed), &format!("filling {seed}"));
+        if seed < 1000 {
+            check_limits(&ellipse(seed), &format!("ellipse {seed}"));
+        }
     }
     for name in FAMILIES {
         for seed in 0..200 {
@@ -160,7 +166,7 @@ fn coverage_counts_a_record() {
         ),
         (1, 1, 1)
     );
-    assert_eq!(coverage.outcomes, [0, 1, 0]);
+    assert_eq!(coverage.outcomes, [0, 1, 0, 0]);
     coverage.add(9, 4, 0, &[]);
     assert_eq!((coverage.answers[9], coverage.found[3]), (1, 1));
     assert!(coverage.table().contains("turn at scale 3 | 1\n"));
@@ -205,4 +211,52 @@ fn rectangles_are_told_apart() {
     assert!(told(32, 33).contains("rectangle below the top edge, some rows capped | 1\n"));
     assert!(told(33, 33).contains("rectangle below the top edge, all rows capped | 1\n"));
     assert!(told(40, 1).contains("rectangle lower than 33 | 1\n"));
+}
+
+/// What the ellipse check goes by, for each kept record of a crop.
+fn kept_widths(made: &Crop) -> Vec<EllipseWidths> {
+    let (words, width, height) = (&made.words, made.width, made.height);
+    let mut records = vec![0; 40 * 1024];
+    let mut marks = vec![0; words.len()];
+    let report = search_words(words, width, height, &mut records, &mut marks, false);
+    let kept = records.chunks_exact(40).take(report.kept as usize);
+    kept.map(|record| ellipse_widths(words, width, height, (record[0], record[1])))
+        .collect()
+}
+
+/// Every family of crops for the ellipse check, every verdict, both sides of four fifths, and the limits of halves and lengths.
+#[test]
+fn crops_for_the_ellipse_check_reach_its_edges() {
+    let mut seen = BTreeSet::new();
+    let mut reached = BTreeSet::new();
+    for made in (0..1000).map(ellipse) {
+        seen.insert(made.family);
+        for widths in kept_widths(&made) {
+            let unequal = widths.verdict() != EllipseVerdict::EqualHalves;
+            let edges = [
+                (widths.verdict() == EllipseVerdict::Ellipse, "an ellipse"),
+                (unequal && widths.good == 115, "115 points"),
+                (unequal && widths.good == 116, "116 points"),
+                (!unequal && widths.good >= 116, "equal halves, 116 points"),
+                (unequal && widths.shortest < 2, "shortest half 0"),
+                (widths.longest > 1_900, "a long one"),
+            ];
+            reached.extend(edges.into_iter().filter(|edge| edge.0).map(|edge| edge.1));
+        }
+    }
+    assert_eq!(seen, ELLIPSES.iter().copied().collect());
+    assert_eq!(reached.len(), 6, "{reached:?}");
+}
+
+#[test]
+fn coverage_counts_a_verdict() {
+    let mut coverage = Coverage::new();
+    let widths = EllipseWidths {
+        longest: 20,
+        shortest: 10,
+        good: 116,
+    };
+    coverage.add_verdict(&widths);
+    assert_eq!(coverage.verdicts, [0, 0, 1]);
+    assert!(coverage.table().contains("ellipse check: an ellipse | 1\n"));
 }

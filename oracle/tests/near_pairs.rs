@@ -109,6 +109,7 @@ impl Canvas {
             self.height,
             &mut records,
             &mut marks,
+            false,
         );
         records.truncate(report.kept as usize * RECORD_WORDS);
         (report, records)
@@ -146,7 +147,7 @@ fn sample_crop() {
     let mut file = vec![0x10, 0x21, 0x02, 0x10];
     file.resize(4 + 165, 0);
     let (mut words, mut marks) = ([0; 33], [0; 33]);
-    let report = harness::search_file(&file, &mut words, &mut [0; 40], &mut marks);
+    let report = harness::search_file(&file, &mut words, &mut [0; 40], &mut marks, false);
     let expected = Report {
         answer: 8,
         found: 0,

@@ -31,6 +31,9 @@ fn every_row_is_hit() {
     let mut coverage = Coverage::default();
     for v in stored() {
         coverage.add(v.report.answer, v.report.found, v.report.kept, &v.records);
+        for widths in v.ellipse_widths() {
+            coverage.add_verdict(&widths);
+        }
     }
     assert!(stored().len() >= 400);
     assert!(coverage.missing().is_empty(), "{:?}", coverage.missing());

@@ -18,8 +18,15 @@ pub enum Input<'a> {
 /// What is asked of an entry, with the lengths of the buffers that it is lent for that.
 #[derive(Clone, Copy, Debug)]
 pub enum Asked {
-    Search { records: usize, marks: usize },
-    Cells { cells: usize },
+    Search {
+        records: usize,
+        marks: usize,
+        /// Whether the ellipse check is on.
+        ellipse: bool,
+    },
+    Cells {
+        cells: usize,
+    },
 }
 
 /// An input, what is asked of it, and the length of the words to unpack into, which are lent only with a file.
@@ -33,10 +40,14 @@ pub struct Call<'a> {
 }
 
 impl<'a> Call<'a> {
-    /// A search with buffers that fit the image, as a file if one is given.
-    pub fn fitting(crop: &'a Crop, file: Option<&'a [u8]>, records: usize) -> Self {
-        let marks = crop.words.len();
-        Self::of(crop, file, Asked::Search { records, marks })
+    /// A search with buffers that fit the image, as a file if one is given, with the ellipse check or without.
+    pub fn fitting(crop: &'a Crop, file: Option<&'a [u8]>, records: usize, ellipse: bool) -> Self {
+        let asked = Asked::Search {
+            records,
+            marks: crop.words.len(),
+            ellipse,
+        };
+        Self::of(crop, file, asked)
     }
 
     /// Cells with buffers that fit the image, as a file if one is given.
@@ -105,14 +116,14 @@ impl Buffers {
             }
         }
         let (records, marks, cells) = match call.asked {
-            Asked::Search { records, marks } => (records, marks, 0),
+            Asked::Search { records, marks, .. } => (records, marks, 0),
             Asked::Cells { cells } => (0, 0, cells),
         };
         self.records.lend(records, call.shift);
         self.marks.lend(marks, call.shift);
         self.cells.lend(cells, call.shift);
         match call.asked {
-            Asked::Search { .. } => self.search(entries, &call.input),
+            Asked::Search { ellipse, .. } => self.search(entries, &call.input, ellipse),
             Asked::Cells { .. } => Report {
                 answer: self.read_cells(entries, &call.input),
                 ..Report::default()
@@ -120,15 +131,16 @@ impl Buffers {
         }
     }
 
-    fn search(&mut self, entries: &Entries, input: &Input) -> Report {
+    fn search(&mut self, entries: &Entries, input: &Input, ellipse: bool) -> Report {
         let (records, marks) = (self.records.slice_mut(), self.marks.slice_mut());
         match *input {
             Input::File(_) => {
                 let words = self.words.slice_mut();
-                (entries.file)(self.file.slice(), words, records, marks)
+                (entries.file)(self.file.slice(), words, records, marks, ellipse)
             }
             Input::Words(_, width, height) => {
-                (entries.words)(self.image.slice(), width, height, records, marks)
+                let image = self.image.slice();
+                (entries.words)(image, width, height, records, marks, ellipse)
             }
         }
     }
@@ -289,15 +301,16 @@ mod tests {
         height: u32,
         records: &mut [u32],
         marks: &mut [u64],
+        ellipse: bool,
     ) -> Report {
-        (SECOND.words)(words, width, height, records, marks)
+        (SECOND.words)(words, width, height, records, marks, ellipse)
     }
 
     /// Searches that are wrong in one place, and what is said of each.
-    const WRONG: [(SearchWords, &str); 4] = [
+    const WRONG: [(SearchWords, &str); 5] = [
         (
-            |words, width, height, records, marks| {
-                let report = right(words, width, height, records, marks);
+            |words, width, height, records, marks, ellipse| {
+                let report = right(words, width, height, records, marks, ellipse);
                 Report {
                     marked: report.marked + 1,
                     ..report
@@ -306,35 +319,41 @@ mod tests {
             "not Report",
         ),
         (
-            |words, width, height, records, marks| {
-                let report = right(words, width, height, records, marks);
+            |words, width, height, records, marks, ellipse| {
+                let report = right(words, width, height, records, marks, ellipse);
                 *records.last_mut().expect("a word") ^= 1;
                 report
             },
             "record word 4019",
         ),
         (
-            |words, width, height, records, marks| {
-                let report = right(words, width, height, records, marks);
+            |words, width, height, records, marks, ellipse| {
+                let report = right(words, width, height, records, marks, ellipse);
                 marks[3] ^= 1 << 40;
                 report
             },
             "word of marks 3",
         ),
         (
-            |words, width, height, records, marks| {
-                let report = right(words, width, height, records, marks);
+            |words, width, height, records, marks, ellipse| {
+                let report = right(words, width, height, records, marks, ellipse);
                 records[crops::places::CLASS] = 4;
                 report
             },
             "record word 39",
         ),
+        (
+            |words, width, height, records, marks, _| {
+                right(words, width, height, records, marks, false)
+            },
+            "not Report",
+        ),
     ];
 
     #[test]
     fn each_wrong_search_is_noticed() {
-        let crop = generate::family("eyes", 2);
-        let call = Call::fitting(&crop, None, 4020);
+        let crop = generate::ellipse(1);
+        let call = Call::fitting(&crop, None, 4020, true);
         let compared = |words| {
             let product = Entries { words, ..SECOND };
             Trial::new(product, SECOND, true).compare(&call)
@@ -424,24 +443,27 @@ mod tests {
     #[test]
     fn a_refusal_that_writes_is_noticed() {
         let writing: Entries = Entries {
-            file: |file, words, records, marks| {
+            file: |file, words, records, marks, ellipse| {
                 marks.fill(0);
-                (SECOND.file)(file, words, records, marks)
+                (SECOND.file)(file, words, records, marks, ellipse)
             },
             ..SECOND
         };
-        let call = Call {
-            input: Input::File(&[]),
-            words: 0,
-            asked: Asked::Search {
-                records: 40,
-                marks: 1,
-            },
-            shift: 0,
-        };
-        for (product, noticed) in [(SECOND, false), (writing, true)] {
-            let compared = Trial::new(product, product, true).compare(&call);
-            assert_eq!(compared.is_err(), noticed);
+        for ellipse in [false, true] {
+            let call = Call {
+                input: Input::File(&[]),
+                words: 0,
+                asked: Asked::Search {
+                    records: 40,
+                    marks: 1,
+                    ellipse,
+                },
+                shift: 0,
+            };
+            for (product, noticed) in [(SECOND, false), (writing, true)] {
+                let compared = Trial::new(product, product, true).compare(&call);
+                assert_eq!(compared.is_err(), noticed);
+            }
         }
     }
 }

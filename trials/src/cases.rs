@@ -1,4 +1,5 @@
-//! What is searched: the generator's crops, grids of eyes about a capacity, and lengths of record buffers.
+//! What is searched: the generator's crops, those for the ellipse check among them, grids of eyes about a capacity, and lengths of
+//! record buffers.
 
 use crops::RECORD_WORDS;
 use oracle::generate::{self, Crop, Random};
@@ -7,14 +8,17 @@ use oracle::generate::{self, Crop, Random};
 pub const CAPACITIES: [(usize, &str); 5] =
     [(1, "1"), (2, "2"), (37, "37"), (400, "400"), (1024, "1024")];
 
-/// One crop of so many is a grid.
+/// One crop of so many is a grid, and one of so many others is for the ellipse check.
 const GRIDS: u32 = 256;
+const ELLIPSES: u32 = 3;
 
 /// The crop of a seed.
 pub fn crop(seed: u64) -> Crop {
     let mut random = Random::new(!seed);
     if random.one_in(GRIDS) {
         grid(&mut random)
+    } else if random.one_in(ELLIPSES) {
+        generate::ellipse(seed)
     } else {
         generate::crop(seed)
     }
@@ -111,6 +115,7 @@ mod tests {
                 grid.height,
                 &mut records,
                 &mut marks,
+                false,
             );
             assert!(accepted(report.answer), "seed {seed}");
             assert_eq!(report.found as usize * RECORD_WORDS, grid.capacity_words);

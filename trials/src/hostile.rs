@@ -269,8 +269,11 @@ impl Caller {
         } else {
             self.random.pick(&[40, 40, 41, 79, 80, 119, 120, 1480])
         };
-        let marks = self.buffer(needed);
-        Asked::Search { records, marks }
+        Asked::Search {
+            records,
+            marks: self.buffer(needed),
+            ellipse: self.random.one_in(2),
+        }
     }
 
     /// A word for each row of cells, or another length up to twice as many, or beyond.
@@ -303,7 +306,7 @@ impl Caller {
 /// A call whose buffers begin at a place that varies with their lengths.
 fn lent(input: Input<'_>, words: usize, asked: Asked) -> Call<'_> {
     let more = match asked {
-        Asked::Search { records, marks } => records + marks,
+        Asked::Search { records, marks, .. } => records + marks,
         Asked::Cells { cells } => cells,
     };
     Call {

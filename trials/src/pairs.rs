@@ -17,12 +17,14 @@ pub struct Pair {
     report: Report,
 }
 
-/// An image, the length of its record buffer, and whether it is handed over as a file.
+/// An image, the length of its record buffer, whether it is handed over as a file, and whether the ellipse check is on, in both
+/// runs.
 #[derive(Clone, Copy)]
 pub struct Given<'a> {
     pub crop: &'a Crop,
     pub records: usize,
     pub as_file: bool,
+    pub ellipse: bool,
 }
 
 impl Pair {
@@ -97,7 +99,7 @@ impl Pair {
 
 fn run(buffers: &mut Buffers, entries: &Entries, given: Given) -> Report {
     let file = given.as_file.then(|| given.crop.file());
-    let call = Call::fitting(given.crop, file.as_deref(), given.records);
+    let call = Call::fitting(given.crop, file.as_deref(), given.records, given.ellipse);
     buffers.run(entries, &call)
 }
 
@@ -131,8 +133,9 @@ mod tests {
         height: u32,
         records: &mut [u32],
         marks: &mut [u64],
+        ellipse: bool,
     ) -> Report {
-        let mut report = (SECOND.words)(words, width, height, records, marks);
+        let mut report = (SECOND.words)(words, width, height, records, marks, ellipse);
         report.found += words[words.len() - 1].count_ones() & 1;
         report
     }
@@ -148,12 +151,51 @@ mod tests {
             crop: &crop,
             records: 4000,
             as_file: false,
+            ellipse: false,
         };
         let mut random = Random::new(1);
         let [mut right, mut wrong] = [SECOND, peeking].map(|entries| Pair::new(entries, true));
         let mut noticed = 0;
         for change in CHANGES {
             for _ in 0..8 {
+                assert_eq!(right.changed(given, change, &mut random), None);
+                noticed += u32::from(wrong.changed(given, change, &mut random).is_some());
+            }
+        }
+        assert!(noticed > 0);
+    }
+
+    /// A search with the ellipse check that reports the marks of one without.
+    fn unmarked(
+        words: &[u64],
+        width: u32,
+        height: u32,
+        records: &mut [u32],
+        marks: &mut [u64],
+        ellipse: bool,
+    ) -> Report {
+        let mut own = vec![0; words.len()];
+        (SECOND.words)(words, width, height, records, &mut own, ellipse);
+        (SECOND.words)(words, width, height, &mut vec![0; 4000], marks, false)
+    }
+
+    #[test]
+    fn reads_of_the_ellipse_check_without_marks_are_noticed() {
+        let unmarked = Entries {
+            words: unmarked,
+            ..SECOND
+        };
+        let mut random = Random::new(1);
+        let [mut right, mut wrong] = [SECOND, unmarked].map(|entries| Pair::new(entries, true));
+        let mut noticed = 0;
+        for crop in (0..60).map(generate::ellipse) {
+            let given = Given {
+                crop: &crop,
+                records: 4000,
+                as_file: false,
+                ellipse: true,
+            };
+            for change in CHANGES {
                 assert_eq!(right.changed(given, change, &mut random), None);
                 noticed += u32::from(wrong.changed(given, change, &mut random).is_some());
             }
@@ -171,6 +213,7 @@ mod tests {
                 crop: &crop,
                 records: 4000,
                 as_file: true,
+                ellipse: true,
             };
             matches!(pair.marked_pixel_flipped(given, &mut random), Some(Some(_)))
         });

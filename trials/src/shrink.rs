@@ -179,8 +179,9 @@ mod tests {
         height: u32,
         records: &mut [u32],
         marks: &mut [u64],
+        ellipse: bool,
     ) -> Report {
-        let report = (SECOND.words)(words, width, height, records, marks);
+        let report = (SECOND.words)(words, width, height, records, marks, ellipse);
         if report.kept > 0 {
             records[2] += 1;
         }
@@ -198,7 +199,10 @@ mod tests {
             ..SECOND
         };
         let mut trial = Trial::new(wrong, SECOND, true);
-        let mut differs = |crop: &Crop| trial.compare(&Call::fitting(crop, None, 4000)).is_err();
+        let mut differs = |crop: &Crop| {
+            let call = Call::fitting(crop, None, 4000, true);
+            trial.compare(&call).is_err()
+        };
         let mut shrunk = 0;
         for seed in 0..40 {
             let crop = generate::family("eyes", seed);

@@ -32,6 +32,11 @@ impl Tally {
         }
     }
 
+    /// Counts whether a search had the ellipse check.
+    pub fn option(&mut self, ellipse: bool) {
+        self.add("ellipse check", if ellipse { "on" } else { "off" });
+    }
+
     /// Counts an answer of cells; stops at a number that they do not have.
     pub fn cells(&mut self, answer: u32) {
         known(crops::cells_meaning(answer));
@@ -114,14 +119,15 @@ mod tests {
         two.add("families", "noise");
         two.differences = 1;
         let line = "2 crops, 1 answers; 0: 1 1: 0 2: 0 3: 0 4: 0 5: 0 6: 0 7: 0 8: 0 9: 0; \
-                    outcomes 0: 0 1: 0 2: 1; families noise: 2; 1 differences";
+                    outcomes 0: 0 1: 0 2: 1 3: 0; families noise: 2; 1 differences";
         let merged = one.merge(two);
         assert_eq!(merged.line("crops"), line);
         let mut cells = Tally::default();
         for answer in [10, 0, 6, 10] {
             cells.cells(answer);
         }
-        let with_cells = "outcomes 0: 0 1: 0 2: 1; 4 answers of cells; 0: 1 6: 1 10: 2; families";
+        let with_cells =
+            "outcomes 0: 0 1: 0 2: 1 3: 0; 4 answers of cells; 0: 1 6: 1 10: 2; families";
         assert!(merged.merge(cells).line("crops").contains(with_cells));
     }
 }

@@ -66,7 +66,7 @@ fn read(path: &PathBuf) -> Vec<u8> {
     fs::read(path).expect("a crop is read")
 }
 
-/// A search of a file as the program makes it: a check, buffers of the image's size, room for 400 records.
+/// A search of a file as the program makes it: a check, buffers of the image's size, room for 400 records, no ellipse check.
 fn search(file: &[u8], search: SearchFile) -> Report {
     let words = match check(file) {
         0 => crops::words_of(file),
@@ -74,7 +74,7 @@ fn search(file: &[u8], search: SearchFile) -> Report {
     };
     let (mut unpacked, mut marks) = (vec![0; words], vec![0; words]);
     let mut records = vec![0; RECORD_WORDS * RECORDS];
-    search(file, &mut unpacked, &mut records, &mut marks)
+    search(file, &mut unpacked, &mut records, &mut marks, false)
 }
 
 /// Stops unless product and Rust agree on every file; without a log there is no number of marks.

@@ -263,9 +263,9 @@ impl Round<'_> {
             0 => self.random.pick(&[0, 7, 90, 97, 180, 270]),
             _ => self.between(0, 359),
         };
-        let ((_, ends), set) = steps::width_at_degree(image(crop), centre, degree);
+        let ((length, ends), set) = steps::width_at_degree(image(crop), centre, degree);
         let [left, right] = ends.map(|end| (bits(end.0), bits(end.1)));
-        let expected = [left.0, left.1, right.0, right.1];
+        let expected = [length, left.0, left.1, right.0, right.1];
         let ours =
             |marks: &mut [u64]| bench::find_width_at_degree(image(crop), marks, centre, degree);
         self.reading(

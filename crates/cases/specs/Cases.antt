@@ -1,13 +1,13 @@
 -- Near pairs, inputs that the rules tell apart by little, as one table: a field for each case says what a step's definition gives. `cases` proves the
 -- table, by computation. Assumes nothing.
 use Prim.Native.Nat.{ℕ, _+_, _*_, _-_, _/_, _%_, _^_}
-use mathlib.Core.Bool.{true, false}
+use mathlib.Core.Bool.{Bool, true, false}
 use mathlib.Core.List.{List, [], _∷_, _++_, map, flatMap}
 use mathlib.Core.Path.{_≡_, refl}
 use lib.Count.{ones}
 use lib.Dec.{eqb}
 use lib.ListN.{set, replicate, drop}
-use lib.Ieee.{size, round, ofBits, ofInt, add, sub, mul, div, toUnsigned, toSigned}
+use lib.Ieee.{size, round, ofBits, ofInt, add, sub, mul, div, lt, toUnsigned, toSigned}
 use Rattle.ieee.specs.Sign.{abs}
 use Rattle.ieee.specs.Units.{unitsOf}
 use Rattle.ieee_sqrt.specs.Sqrt.{rootBy, isqrt, roundRoot, sqrt}
@@ -42,6 +42,8 @@ use Rattle.detector_size.specs.Size.{idealSide, guessedSize, plainSize}
 use Rattle.detector_boundary.specs.Boundary.{leftShift, rightShift, boundaryOf, plainBoundary}
 use Rattle.detector_boundary.specs.declared.Boundary.{Boundary}
 use Rattle.detector_points.specs.Orientation.{point, adjustedPoint}
+use Rattle.detector_walks.specs.declared.Width.{Width}
+use Rattle.detector_ellipse.specs.Ellipse.{longest, shortest, linearEccentricity, checkEllipsePoint, inEllipse, fourFifths}
 use Rattle.detector_outcome.specs.Outcomes.{quarterOf, classOf, turnedBy}
 use Rattle.rxing_result_point.specs.declared.PointU.{PointU}
 use Rattle.crop_padding.specs.Below.{anyBelow, firsts, number}
@@ -105,6 +107,17 @@ twoColumns = 2 ^ 29 + 1
 abbrev pub byTurns : List ℕ
 byTurns = byTurnsOf twoColumns (3 * 2 ^ 28)
 
+-- a width of so many steps, and those of a short one between two long ones
+abbrev pub widthOfSteps : ℕ → Width
+widthOfSteps steps = record { length = steps; left = record { x = real 0; y = real 0 }; right = record { x = real 0; y = real 0 } }
+
+abbrev pub longAndShort : ℕ → ℕ → List Width
+longAndShort long short = map widthOfSteps (long ∷ short ∷ long ∷ [])
+
+-- whether the point (x, y) passes about (20, 20), for these half axes
+abbrev pub passesAt : ℕ → ℕ → ℕ × ℕ → Bool
+passesAt major minor p = inEllipse (point 20 20) major minor (record { x = real (p .0); y = real (p .1) })
+
 pub record Cases : Type 0 where
   -- eleven runs
   pub runs-all-1 : validWidths (equal 1) ≡ true
@@ -137,6 +150,15 @@ pub record Cases : Type 0 where
   pub turn-44 : (scale : ℕ) (center : PointU) → classOf (turnedBy 44 scale center) ≡ 0
   pub turn-46 : (scale : ℕ) (center : PointU) → classOf (turnedBy 46 scale center) ≡ 1
   pub turn-348 : (scale : ℕ) (center : PointU) → classOf (turnedBy 348 scale center) ≡ 0
+  -- the longest length 9 and the shortest 8 have equal halves, and 8 and 7 have not
+  pub lengths-9-and-8 : linearEccentricity (longAndShort 9 8) ≡ 0
+  pub lengths-8-and-7 : linearEccentricity (longAndShort 8 7) ≡ 2
+  -- of 144 points
+  pub good-116 : fourFifths 116 ≡ true
+  pub good-115 : fourFifths 115 ≡ false
+  -- half axes 5 and 3: on the ellipse and just outside it, in the centre's row and in its column; and a zero by a zero, where the shorter half is 0
+  pub points-by-5-and-3 : map (passesAt 5 3) ((25, 20) ∷ (26, 20) ∷ (20, 23) ∷ (20, 24) ∷ []) ≡ true ∷ false ∷ true ∷ false ∷ []
+  pub points-by-5-and-0 : map (passesAt 5 0) ((20, 20) ∷ (25, 20) ∷ (26, 20) ∷ (20, 21) ∷ []) ≡ true ∷ true ∷ true ∷ false ∷ []
   -- cells, whatever was lent for them: a pixel alone is its own rectangle, and the cap takes the row to 0
   pub all-white : (cells : List ℕ) → cellsIn 33 [] cells ≡ cellsRun 10 cells
   pub pixel-in-row-0 : (cells : List ℕ) → cellsIn 33 (2 ^ 5 ∷ []) cells ≡ cellsRun 0 (replicate 33 fullCells)
@@ -162,7 +184,7 @@ unfolding ones size round ofBits ofInt add sub mul div toUnsigned toSigned abs f
     _>>=_ value testBit bitAt range valueOf flatMap pixel tryGet countBlack tryGetArea
     evenRunsPass oddRunsPass validWidths bump total metadata skipWhite windowBy nextBullseyeBy
     widthTo tenthOfWidth further varianceTo expectedArea areaVariance circleVariance filter mean withSquare squares deviation spread near
-    anyBelow firsts number leastBelow greatestBelow enclosingRectangle readBits
+    lt longest shortest linearEccentricity checkEllipsePoint inEllipse anyBelow firsts number leastBelow greatestBelow enclosingRectangle readBits
     insert sort rank ranked verdict idealSide guessedSize leftShift rightShift boundaryOf adjustedPoint quarterOf
 cases = record {
   runs-all-1 = refl;
@@ -187,6 +209,12 @@ cases = record {
   turn-44 = λ scale center. refl;
   turn-46 = λ scale center. refl;
   turn-348 = λ scale center. refl;
+  lengths-9-and-8 = refl;
+  lengths-8-and-7 = refl;
+  good-116 = refl;
+  good-115 = refl;
+  points-by-5-and-3 = refl;
+  points-by-5-and-0 = refl;
   all-white = λ cells. refl;
   pixel-in-row-0 = λ cells. refl;
   pixel-in-row-1 = λ cells. refl;

@@ -1,9 +1,9 @@
--- Demand 3 over runs. Two accepted images of one size, each in words or in a crop file, with equal records lent, that agree at every bit that the first
--- run marked: both runs report the same and leave the same records and marks, whichever the answer. And a stored bit is marked exactly when the steps, at
--- the capacity lent, read it.
+-- Demand 3 over runs. Two accepted images of one size, each in words or in a crop file, with equal records lent, under one setting of the ellipse check,
+-- that agree at every bit that the first run marked: both runs report the same and leave the same records and marks, whichever the answer. And a stored bit
+-- is marked exactly when the steps, at the capacity lent and under the call's setting, read it.
 -- A file's bits are those of its unpacked words. An entry has its part by one lemma, that its run is one of an accepted image. Assumes nothing.
 use Prim.Native.Nat.{ℕ, _/_, _<_}
-use mathlib.Core.Bool.{true}
+use mathlib.Core.Bool.{Bool, true}
 use mathlib.Core.Logic.{_↔_}
 use mathlib.Core.Path.{_≡_, sym, ap, ap₂, _∙_, subst}
 use mathlib.Core.List.{List, List·Memᴰ}
@@ -23,17 +23,18 @@ use Rattle.records.specs.Records.{capacityOf, laidOut}
 use Rattle.detector_search.specs.Search.{Result}
 use Rattle.detector.specs.Detector.{Run, run, reportOf, steps, acceptedRun, wordsRun, FileRun, fileRun}
 
--- a run of an accepted image of this shape, whose bits are those of `words`, with these records and marks that fit lent, leaves `left`
-pub record Accepted (shape : Shape) (words records : List ℕ) (left : Run) : Type 0 where
+-- a run of an accepted image of this shape, whose bits are those of `words`, with these records and marks that fit lent, under this setting of the
+-- ellipse check, leaves `left`
+pub record Accepted (shape : Shape) (words records : List ℕ) (ellipse : Bool) (left : Run) : Type 0 where
   -- the zeros stand for any marks that fit
   pub accepted : WordsAccepted shape words (zeros (size shape)) records
-  pub searched : left ≡ acceptedRun shape words records
+  pub searched : left ≡ acceptedRun shape words records ellipse
 
 -- each run of `search_words` that does not refuse its image is one
-pub words-run : (words : List ℕ) (w h : ℕ) (records marks : List ℕ) {left : Run} → left ≡ wordsRun words w h records marks
-    → wordsRefusal words w h (length marks) (length records) ≡ 0 → Accepted (shapeOf w h) words records left
+pub words-run : (words : List ℕ) (w h : ℕ) (records marks : List ℕ) (ellipse : Bool) {left : Run} → left ≡ wordsRun words w h records marks ellipse
+    → wordsRefusal words w h (length marks) (length records) ≡ 0 → Accepted (shapeOf w h) words records ellipse left
 unfolding wordsRun
-words-run words w h records marks ran passes =
+words-run words w h records marks ellipse ran passes =
     let ok = words-accepted words w h marks records passes in
     let same : length (zeros (size (shapeOf w h))) ≡ length marks =
     length-replicate (size (shapeOf w h)) 0 ∙ sym (ok .image .sized ∙ ok .image .stored) in
@@ -43,10 +44,10 @@ words-run words w h records marks ran passes =
     }
 
 -- and each run of `search_file` that does not refuse its file
-pub file-run : (file words records marks : List ℕ) {left : FileRun} → left ≡ fileRun file words records marks
-    → fileRefusal file (length words) (length marks) (length records) ≡ 0 → Accepted (fileShape file) (image file) records (left .run)
+pub file-run : (file words records marks : List ℕ) (ellipse : Bool) {left : FileRun} → left ≡ fileRun file words records marks ellipse
+    → fileRefusal file (length words) (length marks) (length records) ≡ 0 → Accepted (fileShape file) (image file) records ellipse (left .run)
 unfolding fileRun
-file-run file words records marks ran passes =
+file-run file words records marks ellipse ran passes =
     let ok = file-ready file words marks records passes in
     let long : length (image file) ≡ size (fileShape file) = length-unpacked file (fileShape file) in
     record {
@@ -62,22 +63,22 @@ file-run file words records marks ran passes =
       searched = ap (λ (x : FileRun). x .run) (ran ∙ sym (is-accepted _ _ passes));
     }
 
-module _ {shape : Shape} {words records : List ℕ} {first : Run} (accepted : Accepted shape words records first) where
+module _ {shape : Shape} {words records : List ℕ} {ellipse : Bool} {first : Run} (accepted : Accepted shape words records ellipse first) where
   -- a stored bit is marked exactly when the steps read it
   pub marked-when-steps-read : (i : ℕ) → i / 64 < length words
-      → (bitAt (first .marks) i ≡ true) ↔ List·Memᴰ i (trace (steps shape (length records)) (bitAt words))
+      → (bitAt (first .marks) i ≡ true) ↔ List·Memᴰ i (trace (steps shape (length records) ellipse) (bitAt words))
   unfolding acceptedRun
-  marked-when-steps-read i stored = rw (accepted .searched) (marked-when-read (steps shape (length records)) words i stored)
+  marked-when-steps-read i stored = rw (accepted .searched) (marked-when-read (steps shape (length records) ellipse) words i stored)
 
-  -- a second run, of another accepted image of one size with the first, that agrees with it at every bit marked there: its report, records and marks
-  -- are the first one's
-  pub runs-agree : {shape₂ : Shape} {other : List ℕ} {second : Run} → Accepted shape₂ other records second → shape₂ ≡ shape
+  -- a second run, under the same setting, of another accepted image of one size with the first, that agrees with it at every bit marked there: its report,
+  -- records and marks are the first one's
+  pub runs-agree : {shape₂ : Shape} {other : List ℕ} {second : Run} → Accepted shape₂ other records ellipse second → shape₂ ≡ shape
       → ((i : ℕ) → bitAt (first .marks) i ≡ true → bitAt other i ≡ bitAt words i) → second ≡ first
   unfolding acceptedRun
   runs-agree {other = other} {second} accepted₂ same agree =
-      let beside : Accepted shape other records second = subst (λ (s : Shape). Accepted s other records second) same accepted₂ in
+      let beside : Accepted shape other records ellipse second = subst (λ (s : Shape). Accepted s other records ellipse second) same accepted₂ in
       let long : length other ≡ length words = beside .accepted .image .stored ∙ sym (accepted .accepted .image .stored) in
-      let equal = non-interference (steps shape (length records)) words other long (λ i marked. agree i (rw (accepted .searched) marked)) in
+      let equal = non-interference (steps shape (length records) ellipse) words other long (λ i marked. agree i (rw (accepted .searched) marked)) in
       beside .searched
       ∙ ap₂ (λ (v : Result) (m : List ℕ). run (reportOf (v .counts) (onesOf m)) (laidOut (capacityOf (length records)) (v .records) records) m)
       (equal .0) (equal .1)

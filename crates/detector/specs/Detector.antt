@@ -1,6 +1,8 @@
--- A run is one call of an entry that searches. What it reports and leaves in the lent buffers, for every input: docs/MANUAL.md, "The crop file" and
--- "Answers". The search's definition is `searchAt`, the first true number is `wordsRefusal` or `fileRefusal`. Definitions only. Assumes nothing.
+-- A run is one call of an entry that searches, with the ellipse check on or off. What it reports and leaves in the lent buffers, for every input:
+-- docs/MANUAL.md, "The crop file" and "Answers". The search's definition is `searchAt`, the first true number is `wordsRefusal` or `fileRefusal`.
+-- Definitions only. Assumes nothing.
 use Prim.Native.Nat.{ℕ}
+use mathlib.Core.Bool.{Bool}
 use mathlib.Core.List.{List}
 use lib.ListN.{length}
 use Rattle.reads.specs.Reads.{Reads}
@@ -32,21 +34,22 @@ reportOf c n = record { answer = c .answer; found = c .found; kept = c .kept; ma
 abbrev pub refusedReport : ℕ → Report
 refusedReport n = record { answer = n; found = 0; kept = 0; marked = 0 }
 
--- the steps of a search of an image, with a record buffer of n words
-abbrev pub steps : Shape → ℕ → Reads Result
-steps shape n = searchAt shape (capacityOf n)
+-- the steps of a search of an image, with a record buffer of n words and the ellipse check on or off
+abbrev pub steps : Shape → ℕ → Bool → Reads Result
+steps shape n ellipse = searchAt (record { shape = shape; capacity = capacityOf n; ellipse = ellipse })
 
 -- accepted: the steps from cleared marks; the kept records, zeros up to the capacity, and the words beyond as they were
-unfoldable pub acceptedRun : Shape → List ℕ → List ℕ → Run
-acceptedRun shape words records =
-    let result = valueOf (steps shape (length records)) words in
-    let marks = marksOf (steps shape (length records)) words (zeros (length words)) in
+unfoldable pub acceptedRun : Shape → List ℕ → List ℕ → Bool → Run
+acceptedRun shape words records ellipse =
+    let result = valueOf (steps shape (length records) ellipse) words in
+    let marks = marksOf (steps shape (length records) ellipse) words (zeros (length words)) in
     run (reportOf (result .counts) (onesOf marks)) (laidOut (capacityOf (length records)) (result .records) records) marks
 
 -- an image in words: a refusal changes no buffer
-unfoldable pub wordsRun : List ℕ → ℕ → ℕ → List ℕ → List ℕ → Run
-wordsRun words w h records marks =
-    refusedOr (wordsRefusal words w h (length marks) (length records)) (λ n. run (refusedReport n) records marks) (acceptedRun (shapeOf w h) words records)
+unfoldable pub wordsRun : List ℕ → ℕ → ℕ → List ℕ → List ℕ → Bool → Run
+wordsRun words w h records marks ellipse =
+    refusedOr (wordsRefusal words w h (length marks) (length records)) (λ n. run (refusedReport n) records marks)
+    (acceptedRun (shapeOf w h) words records ellipse)
 
 -- the same with the words to unpack into
 pub record FileRun : Type 0 where
@@ -57,7 +60,7 @@ abbrev pub filed : List ℕ → Run → FileRun
 filed words r = record { words = words; run = r }
 
 -- a crop file: its words are unpacked when it is accepted
-unfoldable pub fileRun : List ℕ → List ℕ → List ℕ → List ℕ → FileRun
-fileRun file words records marks =
+unfoldable pub fileRun : List ℕ → List ℕ → List ℕ → List ℕ → Bool → FileRun
+fileRun file words records marks ellipse =
     refusedOr (fileRefusal file (length words) (length marks) (length records)) (λ n. filed words (run (refusedReport n) records marks))
-    (filed (image file) (acceptedRun (fileShape file) (image file) records))
+    (filed (image file) (acceptedRun (fileShape file) (image file) records ellipse))

@@ -21,19 +21,22 @@ use Rattle.detector.specs.Detector.{acceptedRun, fileRun}
 
 -- ---- no run keeps more records than there is room for
 
-accepted-few : {shape : Shape} (words records : List ℕ) → Limits shape → (acceptedRun shape words records) .report .kept ≤ capacityOf (length records)
+accepted-few : {shape : Shape} (words records : List ℕ) (ellipse : Bool) → Limits shape
+    → (acceptedRun shape words records ellipse) .report .kept ≤ capacityOf (length records)
 unfolding acceptedRun valueOf
-accepted-few {shape} words records limits = counted-few (search-counted shape (capacityOf (length records)) limits .on (bitAt words) .counted)
+accepted-few {shape} words records ellipse limits =
+    counted-few (search-counted (record { shape = shape; capacity = capacityOf (length records); ellipse = ellipse }) limits .on (bitAt words) .counted)
 
-pub file-few : (file words records marks : List ℕ) → (fileRun file words records marks) .run .report .kept ≤ capacityOf (length records)
+pub file-few : (file words records marks : List ℕ) (ellipse : Bool)
+    → (fileRun file words records marks ellipse) .run .report .kept ≤ capacityOf (length records)
 unfolding fileRun refusedOr
-file-few file words records marks = go (eqb number 0) refl
+file-few file words records marks ellipse = go (eqb number 0) refl
   where
     number : ℕ
     number = fileRefusal file (length words) (length marks) (length records)
 
-    go : (b : Bool) → eqb number 0 ≡ b → (fileRun file words records marks) .run .report .kept ≤ capacityOf (length records)
-    go true e = rw e (accepted-few (image file) records (file-ready file words marks records (eqb-true _ _ e) .image .limits))
+    go : (b : Bool) → eqb number 0 ≡ b → (fileRun file words records marks ellipse) .run .report .kept ≤ capacityOf (length records)
+    go true e = rw e (accepted-few (image file) records ellipse (file-ready file words marks records (eqb-true _ _ e) .image .limits))
     go false e = rw e (omega arith)
 
 -- ---- buffers lent from arrays of zeros

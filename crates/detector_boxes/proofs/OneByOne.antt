@@ -13,34 +13,34 @@ use Rattle.bit_matrix.specs.declared.Shape.{Shape}
 use Rattle.records.specs.Records.{Record}
 use Rattle.detector_boxes.specs.Boxing.{boxed, boxedAll}
 
-module _ (shape : Shape) where
+module _ (ellipse : Bool) (shape : Shape) where
   unfoldable pub boxedFrom : List Record → List Record → Reads (List Record)
   boxedFrom first [] = done first
   boxedFrom first (r ∷ rs) = do
-    b ← boxed shape r
+    b ← boxed ellipse shape r
     boxedFrom (first ++ b ∷ []) rs
 
   abbrev all : List Record → Reads (List Record)
-  all rs = boxedAll shape rs
+  all rs = boxedAll ellipse shape rs
 
   values : (first rs : List Record) (image : ℕ → Bool) → value (boxedFrom first rs) image ≡ first ++ value (all rs) image
   unfolding value boxedFrom boxedAll
   values first [] image = sym (append-nil first)
   values first (r ∷ rs) image =
-      let b = value (boxed shape r) image in
-      value-bind (boxed shape r) _ image
+      let b = value (boxed ellipse shape r) image in
+      value-bind (boxed ellipse shape r) _ image
       ∙ values (first ++ b ∷ []) rs image ∙ append-snoc first b (value (all rs) image)
-      ∙ ap (λ (bs : List Record). first ++ bs) (sym (value-bind (boxed shape r) _ image ∙ value-bind (all rs) _ image))
+      ∙ ap (λ (bs : List Record). first ++ bs) (sym (value-bind (boxed ellipse shape r) _ image ∙ value-bind (all rs) _ image))
 
   traces : (first rs : List Record) (image : ℕ → Bool) → trace (boxedFrom first rs) image ≡ trace (all rs) image
   unfolding trace boxedFrom boxedAll
   traces first [] image = refl
   traces first (r ∷ rs) image =
-      let b = value (boxed shape r) image in
-      trace-bind (boxed shape r) _ image
-      ∙ ap (λ (t : List ℕ). trace (boxed shape r) image ++ t)
+      let b = value (boxed ellipse shape r) image in
+      trace-bind (boxed ellipse shape r) _ image
+      ∙ ap (λ (t : List ℕ). trace (boxed ellipse shape r) image ++ t)
       (traces (first ++ b ∷ []) rs image ∙ sym (trace-bind (all rs) _ image ∙ append-nil (trace (all rs) image)))
-      ∙ sym (trace-bind (boxed shape r) _ image)
+      ∙ sym (trace-bind (boxed ellipse shape r) _ image)
 
   pub all-at-once : {words marks marks′ : List ℕ} (rs : List Record) {bs : List Record} → Ran (boxedFrom [] rs) words marks bs marks′
       → Ran (all rs) words marks bs marks′

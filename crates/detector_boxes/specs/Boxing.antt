@@ -1,4 +1,5 @@
--- The box and turn of each kept record, one after another, as a reading program. Definitions only. Assumes nothing.
+-- The box and turn of each kept record, one after another, as a reading program, with the option on or off. Definitions only. Assumes nothing.
+use mathlib.Core.Bool.{Bool}
 use mathlib.Core.List.{List, [], _∷_}
 use lib.ListN.{getD}
 use Rattle.reads.specs.Reads.{Reads, done, _>>=_}
@@ -13,11 +14,11 @@ use Rattle.detector_symbol.specs.Symbols.{withSymbol}
 abbrev pub circleOf : Record → Circle
 circleOf r = record { center = record { x = getD r field.centerX 0; y = getD r field.centerY 0 }; radius = getD r field.radius 0 }
 
-module _ (shape : Shape) where
+module _ (ellipse : Bool) (shape : Shape) where
   -- a kept record with its symbol's words
   unfoldable pub boxed : Record → Reads Record
   boxed r = do
-    symbol ← symbolAt shape (circleOf r)
+    symbol ← symbolAt ellipse shape (circleOf r)
     done (withSymbol r symbol)
 
   -- each record with its symbol, one after another

@@ -1,21 +1,23 @@
--- What holds of one search of a row, on every image: where it does not end its row, the next one starts further to the right, and its candidate is fit for the
--- steps after the sweep; and that the search with the source's test of the widths is the same. Assumes nothing.
+-- What holds of one search of a row, on the image at hand: where it does not end its row, the next one starts further to the right, and its candidate is fit
+-- for the steps after the sweep; and that the search with the source's test of the widths is the same. Assumes nothing.
 use Prim.Native.Nat.{ℕ, zero, suc, _+_, _-_, _/_, _≤_, _<_}
 use native.Mathlib.Omega.{arith}
 use mathlib.Core.Path.{_≡_, refl}
-use mathlib.Core.Bool.{true, false, true≢false, false≢true}
+use mathlib.Core.Bool.{Bool, true, false, true≢false, false≢true}
 use mathlib.Core.List.{List, [], _∷_, _++_}
 use borrow.Author.Tests.{eqb-false}
 use lib.ListN.{length, getD, replicate, length-append, length-replicate}
-use Rattle.reads.specs.ReadsLaws.{Always, Same, always-done, always-bind, always-cond, same-refl, same-after, same-cond}
+use Rattle.reads.specs.ReadsLaws.{On, Same, on-done, on-always, on-bind, on-cond, same-refl, same-after, same-cond}
 use Rattle.reads.specs.BitsLaws.{getD-zeros}
+use Rattle.reads.specs.Total.{total}
 use Rattle.records.specs.Fields as field
 use Rattle.records.specs.Records.{Record}
 use Rattle.bit_matrix.specs.declared.Shape.{Shape}
 use Rattle.bit_matrix.specs.ShapeClauses.{Limits, Inside}
+use Rattle.bit_matrix.specs.FlankedClauses.{Flanked}
 use Rattle.detector_widths.specs.WidthsF32.{validWidthsF32}
 use Rattle.detector_first_window.specs.FirstWindowLaws.{Closed}
-use Rattle.detector_rows.specs.RowsLaws.{always-closed, same-rows-f32}
+use Rattle.detector_rows.specs.RowsLaws.{closed-on, same-rows-f32}
 use Rattle.detector_window.specs.declared.Bullseye.{Bullseye}
 use Rattle.detector_columns.specs.ColumnsLaws.{Bounded, verified-bounded, same-vertical-f32}
 use Rattle.detector_candidate.specs.Candidate.{candidateOf, nothing, passed, failed, searchBy}
@@ -28,22 +30,22 @@ pub record Onward (width column : ℕ) (s : Searched) : Type 0 where
   pub further : s .ended ≡ false → column < s .column
   pub inside : s .ended ≡ false → s .column < width - 6
 
-module _ {width start : ℕ} {eye : Bullseye} (closed : Closed start width eye) where
+module _ {shape : Shape} {image : ℕ → Bool} {row start : ℕ} {eye : Bullseye} (closed : Closed shape image row start eye) where
   -- where a search goes on after a window that failed: at or right of its start, and left of its limit
   quarter-after : start ≤ eye .center - eye .radius + eye .radius / 4
   quarter-after = omega (arith, closed .after-start, closed .half, closed .eleven-pixels)
 
-  quarter-inside : eye .center - eye .radius + eye .radius / 4 < width - 6
+  quarter-inside : eye .center - eye .radius + eye .radius / 4 < shape .width - 6
   quarter-inside = omega (arith, closed .before-limit)
 
-  passed-onward : (row : ℕ) (vertical : List ℕ) → Onward width start (passed row eye vertical)
+  passed-onward : (vertical : List ℕ) → Onward (shape .width) start (passed row eye vertical)
   unfolding passed
-  passed-onward row vertical = record {
+  passed-onward vertical = record {
     further = λ _. omega (arith, closed .after-start, closed .eleven-pixels);
     inside = λ _. closed .before-limit;
   }
 
-  failed-onward : Onward width start (failed start eye)
+  failed-onward : Onward (shape .width) start (failed start eye)
   unfolding failed
   failed-onward = record {
     further = λ e.
@@ -58,10 +60,11 @@ nothing-onward width column = record { further = λ e. absurd (true≢false e); 
 
 -- ---- each candidate
 
--- a candidate of an image of that shape: its centre inside, and all of its words small
-pub record Candidate (shape : Shape) (r : Record) : Type 0 where
+-- a candidate of an image of that shape: its centre inside, between black pixels of its row, and all of its words small
+pub record Candidate (shape : Shape) (image : ℕ → Bool) (r : Record) : Type 0 where
   pub whole : length r ≡ 40
   pub inside : Inside shape (getD r field.centerX 0) (getD r field.centerY 0)
+  pub flanked : Flanked shape image (getD r field.centerX 0) (getD r field.centerY 0)
   pub least : 6 ≤ getD r field.radius 0
   pub most : getD r field.radius 0 ≤ 1018
   pub small : (k : ℕ) → getD r k 0 < 65536
@@ -75,13 +78,26 @@ below-cons : (most x : ℕ) (xs : List ℕ) → x < most → ((k : ℕ) → getD
 below-cons most x xs first rest zero = first
 below-cons most x xs first rest (suc k) = rest k
 
-module _ {shape : Shape} {row column : ℕ} (limits : Limits shape) (at : Searchable shape row column) {eye : Bullseye}
-    (closed : Closed column (shape .width) eye) {vertical : List ℕ} (bounded : Bounded (shape .height) vertical) where
-  candidate-fit : Candidate shape (candidateOf row eye vertical)
+-- the centre of a window lies between its first and its last pixel
+closed-flanked : {shape : Shape} {image : ℕ → Bool} {row start : ℕ} {eye : Bullseye} → Closed shape image row start eye → Flanked shape image (eye .center) row
+closed-flanked {eye = eye} closed = record {
+  left = eye .center + eye .radius - total (eye .buckets);
+  left-before = omega (arith, closed .after-start, closed .half, closed .eleven-pixels);
+  left-black = closed .first-black;
+  right = eye .center + eye .radius - 1;
+  right-after = omega (arith, closed .half, closed .eleven-pixels);
+  right-inside = omega (arith, closed .before-limit);
+  right-black = closed .last-black;
+}
+
+module _ {shape : Shape} {image : ℕ → Bool} {row column : ℕ} (limits : Limits shape) (at : Searchable shape row column) {eye : Bullseye}
+    (closed : Closed shape image row column eye) {vertical : List ℕ} (bounded : Bounded (shape .height) vertical) where
+  candidate-fit : Candidate shape image (candidateOf row eye vertical)
   unfolding candidateOf
   candidate-fit = record {
     whole = simp (length-append, length-replicate, closed .eleven-runs, bounded .eleven) refl;
     inside = record { column = omega (arith, closed .before-limit); row = at .inside .row };
+    flanked = closed-flanked closed;
     least = omega (arith, closed .half, closed .eleven-pixels);
     most = omega (arith, limits .width-most, at .left, closed .after-start, closed .before-limit, closed .half);
     small =
@@ -114,28 +130,28 @@ searchable-first limits above = record {
 }
 
 -- a search's candidate, if it has one
-pub record FitSearch (shape : Shape) (column : ℕ) (s : Searched) : Type 0 where
+pub record FitSearch (shape : Shape) (image : ℕ → Bool) (column : ℕ) (s : Searched) : Type 0 where
   pub onward : Onward (shape .width) column s
-  pub fit : s .passed ≡ true → Candidate shape (s .candidate)
+  pub fit : s .passed ≡ true → Candidate shape image (s .candidate)
 
-pub search-fit : (shape : Shape) (row column : ℕ) → Limits shape → Searchable shape row column
-    → Always (FitSearch shape column) (searchFrom shape row column)
+pub search-fit : (shape : Shape) (image : ℕ → Bool) (row column : ℕ) → Limits shape → Searchable shape row column
+    → On image (FitSearch shape image column) (searchFrom shape row column)
 unfolding searchBy passed failed nothing
-search-fit shape row column limits at =
-    always-bind _ (always-closed shape row column) λ eye closed.
-    always-cond (eye .found)
+search-fit shape image row column limits at =
+    on-bind image _ (closed-on shape row column image) λ eye closed.
+    on-cond image (eye .found)
     (λ found.
-    always-bind _ (verified-bounded shape row (eye .center)) λ seen bounded.
-    always-cond (seen .good)
-    (λ _. always-done (fits-passed (closed found) bounded))
-    (λ _. always-done (fits-failed (closed found))))
-    (λ _. always-done (record { onward = nothing-onward (shape .width) column; fit = λ e. absurd (false≢true e) }))
+    on-bind image _ (on-always image (verified-bounded shape row (eye .center))) λ seen bounded.
+    on-cond image (seen .good)
+    (λ _. on-done image (fits-passed (closed found) bounded))
+    (λ _. on-done image (fits-failed (closed found))))
+    (λ _. on-done image (record { onward = nothing-onward (shape .width) column; fit = λ e. absurd (false≢true e) }))
   where
-    fits-passed : {eye : Bullseye} {vertical : List ℕ} → Closed column (shape .width) eye → Bounded (shape .height) vertical
-        → FitSearch shape column (passed row eye vertical)
-    fits-passed {eye} {vertical} closed bounded = record { onward = passed-onward closed row vertical; fit = λ _. candidate-fit limits at closed bounded }
+    fits-passed : {eye : Bullseye} {vertical : List ℕ} → Closed shape image row column eye → Bounded (shape .height) vertical
+        → FitSearch shape image column (passed row eye vertical)
+    fits-passed {eye} {vertical} closed bounded = record { onward = passed-onward closed vertical; fit = λ _. candidate-fit limits at closed bounded }
 
-    fits-failed : {eye : Bullseye} → Closed column (shape .width) eye → FitSearch shape column (failed column eye)
+    fits-failed : {eye : Bullseye} → Closed shape image row column eye → FitSearch shape image column (failed column eye)
     fits-failed closed = record { onward = failed-onward closed; fit = λ e. absurd (false≢true e) }
 
 -- ---- with the source's test of the widths

@@ -1,4 +1,4 @@
--- What holds of the sweep on every image: each candidate is fit for the steps after the sweep, and the sweep with the source's test
+-- What holds of the sweep, on the image at hand: each candidate is fit for the steps after the sweep; and that the sweep with the source's test
 -- of the widths is the same. Assumes nothing.
 use Prim.Native.Nat.{ℕ, zero, suc, _+_, _-_, _≤_}
 use native.Mathlib.Omega.{arith}
@@ -9,7 +9,7 @@ use borrow.Author.Tests.{ltb-true, ltb-false}
 use lib.Dec.{ltb}
 use lib.ListN.{length, length-append}
 use Rattle.reads.specs.Reads.{Reads, done}
-use Rattle.reads.specs.ReadsLaws.{Always, Same, always-done, always-bind, always-cond, same-refl, same-after, same-cond}
+use Rattle.reads.specs.ReadsLaws.{On, Same, on-done, on-bind, on-cond, same-refl, same-after, same-cond}
 use Rattle.records.specs.Records.{Record}
 use Rattle.records.specs.RecordsClauses.{Each}
 use Rattle.bit_matrix.specs.declared.Shape.{Shape}
@@ -36,57 +36,57 @@ each-append P (x ∷ rs) r each p = (each .0, each-append P rs r (each .1) p)
 
 -- ---- the whole sweep
 
-module _ (shape : Shape) (capacity : ℕ) where
+module _ (shape : Shape) (image : ℕ → Bool) (capacity : ℕ) where
   -- what the sweep gives
   abbrev SweptCandidates : List Record → Type 0
-  SweptCandidates circles = Each (Candidate shape) circles × (length circles ≤ capacity + 1)
+  SweptCandidates circles = Each (Candidate shape image) circles × (length circles ≤ capacity + 1)
 
   -- after a search
-  step-fit : {row column : ℕ} (s : Searched) (now : List Record) (rest : Reads (List Record)) → Searchable shape row column → FitSearch shape column s
-      → SweptCandidates now → (Searchable shape row (s .column) → length now ≤ capacity → Always SweptCandidates rest)
-      → Always SweptCandidates (cond (s .ended || ltb capacity (length now)) (done now) rest)
+  step-fit : {row column : ℕ} (s : Searched) (now : List Record) (rest : Reads (List Record)) → Searchable shape row column → FitSearch shape image column s
+      → SweptCandidates now → (Searchable shape row (s .column) → length now ≤ capacity → On image SweptCandidates rest)
+      → On image SweptCandidates (cond (s .ended || ltb capacity (length now)) (done now) rest)
   step-fit s now rest at fits held goes =
-      always-cond (s .ended || ltb capacity (length now))
-      (λ _. always-done held)
+      on-cond image (s .ended || ltb capacity (length now))
+      (λ _. on-done image held)
       (λ on. goes (searchable-next at (fits .onward) (or-left (s .ended) _ on)) (ltb-false capacity (length now) (or-right (s .ended) _ on)))
 
   -- the candidates after a search
-  now-fit : {column : ℕ} (s : Searched) (circles : List Record) → FitSearch shape column s → Each (Candidate shape) circles → length circles ≤ capacity
-      → SweptCandidates (after circles s)
+  now-fit : {column : ℕ} (s : Searched) (circles : List Record) → FitSearch shape image column s
+      → Each (Candidate shape image) circles → length circles ≤ capacity → SweptCandidates (after circles s)
   now-fit s circles fits each few = go (s .passed) refl
     where
       go : (b : Bool) → s .passed ≡ b → SweptCandidates (cond b (circles ++ s .candidate ∷ []) circles)
-      go true e = (each-append (Candidate shape) circles (s .candidate) each (fits .fit e), simp length-append (omega arith))
+      go true e = (each-append (Candidate shape image) circles (s .candidate) each (fits .fit e), simp length-append (omega arith))
       go false e = (each, omega arith)
 
   row-fit : (n row column : ℕ) (circles : List Record) → Limits shape → Searchable shape row column
-      → Each (Candidate shape) circles → length circles ≤ capacity → Always SweptCandidates (rowFrom shape capacity n row column circles)
+      → Each (Candidate shape image) circles → length circles ≤ capacity → On image SweptCandidates (rowFrom shape capacity n row column circles)
   unfolding rowBy
-  row-fit zero row column circles limits at each few = always-done (each, omega arith)
+  row-fit zero row column circles limits at each few = on-done image (each, omega arith)
   row-fit (suc n) row column circles limits at each few =
-      always-bind _ (search-fit shape row column limits at) λ s fits.
+      on-bind image _ (search-fit shape image row column limits at) λ s fits.
       let held = now-fit s circles fits each few in
       step-fit s _ _ at fits held (λ next short. row-fit n row (s .column) _ limits next (held .0) short)
 
-  rows-fit : (n row : ℕ) (circles : List Record) → Limits shape → Each (Candidate shape) circles → length circles ≤ capacity
-      → Always SweptCandidates (rowsFrom shape capacity n row circles)
+  rows-fit : (n row : ℕ) (circles : List Record) → Limits shape → Each (Candidate shape image) circles → length circles ≤ capacity
+      → On image SweptCandidates (rowsFrom shape capacity n row circles)
   unfolding rowsBy
-  rows-fit zero row circles limits each few = always-done (each, omega arith)
+  rows-fit zero row circles limits each few = on-done image (each, omega arith)
   rows-fit (suc n) row circles limits each few =
-      always-cond (ltb row (shape .height - 6))
+      on-cond image (ltb row (shape .height - 6))
       (λ inside.
       let at : Searchable shape row 6 = searchable-first limits (omega (arith, ltb-true row (shape .height - 6) inside)) in
-      always-bind _ (row-fit (shape .width) row 6 circles limits at each few) λ now held.
-      always-cond (ltb capacity (length now))
-      (λ _. always-done held)
+      on-bind image _ (row-fit (shape .width) row 6 circles limits at each few) λ now held.
+      on-cond image (ltb capacity (length now))
+      (λ _. on-done image held)
       (λ room. rows-fit n (row + 2) now limits (held .0) (ltb-false capacity (length now) room)))
-      (λ _. always-done (each, omega arith))
+      (λ _. on-done image (each, omega arith))
 
 -- Each is a candidate of the image, and there is at most one more than the capacity.
-pub all-candidates : (shape : Shape) (capacity : ℕ) → Limits shape
-    → Always (λ (rs : List Record). Each (Candidate shape) rs × (length rs ≤ capacity + 1)) (concentricCircles shape capacity)
+pub all-candidates : (shape : Shape) (capacity : ℕ) → Limits shape → (image : ℕ → Bool)
+    → On image (λ (rs : List Record). Each (Candidate shape image) rs × (length rs ≤ capacity + 1)) (concentricCircles shape capacity)
 unfolding concentricCirclesBy Each
-all-candidates shape capacity limits = rows-fit shape capacity (shape .height) 6 [] limits tt (omega arith)
+all-candidates shape capacity limits image = rows-fit shape image capacity (shape .height) 6 [] limits tt (omega arith)
 
 -- ---- with the source's test of the widths
 

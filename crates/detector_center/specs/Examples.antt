@@ -16,7 +16,7 @@ use Rattle.bit_matrix.specs.Shape.{shapeOf}
 use Rattle.bit_matrix.specs.Pixels.{pixel}
 use Rattle.rxing_result_point.specs.declared.PointU.{PointU}
 use Rattle.rxing_result_point.specs.Points.{turned}
-use Rattle.detector_walks.specs.Walks.{whitePixel, leftFrom, rightFrom, walk, findWidthAtDegree}
+use Rattle.detector_walks.specs.Walks.{whitePixel, leftFrom, rightFrom, walk, widthOf, findWidthAtDegree}
 use Rattle.detector_center.specs.Center.{findCenter, corrected}
 
 -- 33 columns and rows of one word each
@@ -32,6 +32,6 @@ center = record { x = 16; y = 16 }
 
 pub black-center : (valueOf (corrected smallest center) blackCenter ≡ record { x = 0; y = 0 })
     × (trace (corrected smallest center) (bitAt blackCenter) ≡ 1040 ∷ 1040 ∷ 1040 ∷ 1039 ∷ [])
-unfolding valueOf value trace _>>=_ testBit bitAt pixel whitePixel leftFrom rightFrom walk findWidthAtDegree findCenter corrected
+unfolding valueOf value trace _>>=_ testBit bitAt pixel whitePixel leftFrom rightFrom walk widthOf findWidthAtDegree findCenter corrected
     turned sineOf ofBits ofInt add sub mul div toUnsigned abs floor roundTiesToAway
 black-center = (refl, refl)

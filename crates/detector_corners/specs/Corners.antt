@@ -1,4 +1,5 @@
--- The corners of a symbol's box in `box_symbol` of detector.rs, plain or turned about the corrected centre. Definitions only. Assumes nothing.
+-- The corners of a symbol's box in `box_symbol` of detector.rs, plain or turned about the corrected centre. An ellipse has none: zeros. Definitions only.
+-- Assumes nothing.
 use Prim.Native.Nat.{ℕ}
 use mathlib.Core.List.{List, [], _∷_, map}
 use lib.Ieee.{toUnsigned}
@@ -23,6 +24,11 @@ turnedCorner center degree p = getPoint center (record { x = toUnsigned 32 (p .x
 abbrev pub turnedCorners : Boundary → PointU → ℕ → List Point
 turnedCorners b center degree = map (turnedCorner center degree) (plainCorners b)
 
--- turned about the turn's centre, or plain
+-- no box
+abbrev pub noCorners : List Point
+noCorners = corner 0 0 ∷ corner 0 0 ∷ corner 0 0 ∷ corner 0 0 ∷ []
+
+-- turned about the turn's centre, plain, or none
 unfoldable pub cornersOf : Boundary → Turn → List Point
-cornersOf b turn = ifOutcome (λ rotation. turnedCorners b (turn .center) (turn .degree)) (plainCorners b) (plainCorners b) (turn .outcome)
+cornersOf b turn =
+    ifOutcome (λ rotation. turnedCorners b (turn .center) (turn .degree)) (plainCorners b) (plainCorners b) noCorners (turn .outcome)

@@ -1,4 +1,4 @@
-// The corners of a symbol's box in `box_symbol` of detector.rs: plain, or turned about the corrected centre.
+// The corners of a symbol's box in `box_symbol` of detector.rs: plain, or turned about the corrected centre; zeros for an ellipse, which has no box.
 use detector_boundary::Boundary;
 use detector_outcome::Outcome;
 use detector_outcome::Turn;
@@ -59,15 +59,22 @@ fn turned_corners(b: Boundary, center: PointU, table: &[f32; 360], degree: u32) 
     ]
 }
 
-// The corners of a symbol by its turn: turned about the turn's centre, or plain.
+// The corners of a symbol by its turn: turned about the turn's centre, plain, or none.
 pub fn corners_of(b: Boundary, turn: Turn, table: &[f32; 360]) -> [Point; 4]
     requires { ⌜ Placed b × (now table ≡ sines) ⌝ }
     ensures { λ r. ⌜ r ≡ cornersOf b turn ⌝ }
 {
     let outcome = turn.outcome;
+    let none = Boundary {
+        left: 0,
+        right: 0,
+        top: 0,
+        bottom: 0,
+    };
     match outcome {
         Outcome::Turned(_) => turned_corners(b, turn.center, table, turn.degree),
         Outcome::NoTurn => plain_corners(b),
         Outcome::LostCentre => plain_corners(b),
+        Outcome::Ellipse => plain_corners(none),
     }
 }

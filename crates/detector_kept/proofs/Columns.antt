@@ -12,7 +12,8 @@ use Rattle.records.specs.Records.{Record, rows}
 use Rattle.records.specs.RecordsLaws.{length-rows, get-row, get-word, each-at}
 use Rattle.detector_variances.specs.VariancesClauses.{Small}
 use Rattle.reads.specs.Total.{total}
-use Rattle.detector_kept.specs.Spread.{fieldsAt, real64, mean, withSquare, squares, deviation, spread}
+use Rattle.ieee.specs.Whole.{real64}
+use Rattle.detector_kept.specs.Spread.{fieldsAt, mean, withSquare, squares, deviation, spread}
 use Rattle.detector_kept.specs.KeptClauses.{Candidates}
 use Rattle.detector_kept.specs.declared.Spread.{Spread}
 

@@ -2,9 +2,9 @@
 -- square as a product. Definitions only. Assumes nothing.
 use Prim.Native.Nat.{ℕ}
 use mathlib.Core.List.{List, [], _∷_, map}
-use lib.IntN.{pos}
 use lib.ListN.{length, getD}
-use lib.Ieee.{Float, binary64, ofBits, ofInt, add, sub, mul, div, toUnsigned}
+use lib.Ieee.{Float, binary64, ofBits, add, sub, mul, div, toUnsigned}
+use Rattle.ieee.specs.Whole.{real64}
 use Rattle.ieee_sqrt.specs.Sqrt.{sqrt}
 use Rattle.reads.specs.Total.{total}
 use Rattle.records.specs.Fields as field
@@ -14,9 +14,6 @@ use Rattle.detector_kept.specs.declared.Spread.{Spread}
 -- one field of each record
 abbrev pub fieldsAt : ℕ → List Record → List ℕ
 fieldsAt k rs = map (λ (r : Record). getD r k 0) rs
-
-abbrev pub real64 : ℕ → Float
-real64 n = ofInt binary64 (pos n)
 
 unfoldable pub mean : List ℕ → Float
 mean xs = div binary64 (real64 (total xs)) (real64 (length xs))

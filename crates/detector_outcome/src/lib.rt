@@ -1,17 +1,18 @@
-// What the scales of `box_symbol` of detector.rs come to: a turn in each of its three cases, its words in a record, and the class of a symbol.
+// What `box_symbol` of detector.rs comes to: a turn in each of its four cases, its words in a record, and the class of a symbol.
 use rxing_result_point::PointU;
 ghost use mathlib.Core.Path.{_≡_};
 ghost use Prim.Native.Nat.{_<_};
-ghost use Rattle.detector_outcome.specs.Outcomes.{turnedBy, notTurned, lostAt, outcomeNumber, rotationBits, quarterOf, classOf};
+ghost use Rattle.detector_outcome.specs.Outcomes.{turnedBy, notTurned, lostAt, ellipseAt, outcomeNumber, rotationBits, quarterOf, classOf};
 
-// What the scales come to. With a turn its degrees, as f32.
+// What the scales come to, or an ellipse, for which none is tried. With a turn its degrees, as f32.
 pub enum Outcome {
     Turned(f32),
     NoTurn,
     LostCentre,
+    Ellipse,
 }
 
-// What the scales find: the degree of the turn (0 without one), the scale that turned or lost the centre (0 without), and the last centre inside the image.
+// What was found: the degree of the turn (0 without one), the scale that turned or lost the centre (0 without), and the last centre inside the image.
 pub struct Turn {
     pub outcome: Outcome,
     pub degree: u32,
@@ -19,7 +20,7 @@ pub struct Turn {
     pub center: PointU,
 }
 
-// What the scales find, in each of the three cases.
+// What was found, in each of the four cases.
 pub fn turned_by(degree: u32, scale: u32, center: PointU) -> Turn
     ensures { λ r. ⌜ r ≡ turnedBy degree scale center ⌝ }
 {
@@ -56,6 +57,19 @@ pub fn lost_at(scale: u32, center: PointU) -> Turn
     }
 }
 
+pub fn ellipse_at(center: PointU) -> Turn
+    ensures { λ r. ⌜ r ≡ ellipseAt center ⌝ }
+{
+    let outcome = Outcome::Ellipse;
+    let none = 0u32;
+    Turn {
+        outcome,
+        degree: none,
+        scale: none,
+        center,
+    }
+}
+
 // The number of an outcome in a record.
 pub fn outcome_number(outcome: Outcome) -> u32
     ensures { λ r. ⌜ r ≡ outcomeNumber outcome ⌝ }
@@ -64,6 +78,7 @@ pub fn outcome_number(outcome: Outcome) -> u32
         Outcome::Turned(_) => 1,
         Outcome::NoTurn => 0,
         Outcome::LostCentre => 2,
+        Outcome::Ellipse => 3,
     }
 }
 
@@ -75,6 +90,7 @@ pub fn rotation_bits(outcome: Outcome) -> u32
         Outcome::Turned(rotation) => ieee::bits_of_f32(rotation),
         Outcome::NoTurn => 0,
         Outcome::LostCentre => 0,
+        Outcome::Ellipse => 0,
     }
 }
 
@@ -96,5 +112,6 @@ pub fn class_of(turn: Turn) -> u32
         Outcome::Turned(_) => quarter_of(turn.degree),
         Outcome::NoTurn => 0u32,
         Outcome::LostCentre => 0u32,
+        Outcome::Ellipse => 0u32,
     }
 }

@@ -7,10 +7,10 @@ use mathlib.Core.List.{List, [], _++_, append-assoc}
 use lib.ListN.{length, getD, drop, set, take-append-drop}
 use lib.Seq.{take-all, drop-at, length-take-le, getD-set-other}
 use Rattle.reads.specs.Reads.{Reads}
-use Rattle.reads.specs.Bits.{zeros}
+use Rattle.reads.specs.Bits.{bitAt, zeros}
 use Rattle.reads.specs.Runs.{valueOf}
 use Rattle.reads.specs.RunsClauses.{Ran}
-use Rattle.reads.specs.RunsLaws.{ran-done, ran-bind, always-ran}
+use Rattle.reads.specs.RunsLaws.{ran-done, ran-bind, on-ran}
 use Rattle.bit_matrix.specs.declared.Shape.{Shape}
 use Rattle.bit_matrix.specs.ShapeClauses.{Image}
 use Rattle.records.specs.Fields as field
@@ -30,22 +30,33 @@ use Rattle.detector_verdict.specs.VerdictLaws.{no-records, verdict-counted, cou
 use Rattle.detector_verdict.specs.declared.Counts.{Counts}
 use Rattle.detector_boxes.specs.Boxing.{boxedAll}
 use Rattle.detector_boxes.specs.BoxingClauses.{Boxable, AllBoxable, Boxed}
+use Rattle.detector_search.specs.declared.Setting.{Setting}
 use Rattle.detector_search.specs.Search.{Result, searchAt}
 use Rattle.detector_search.specs.SearchClauses.{Sought}
 
 -- the variance's word is none of those that the box takes
-candidate-boxable : {shape : Shape} (r : Record) → Candidate shape r → Boxable shape (withVariance r)
+candidate-boxable : {shape : Shape} {words : List ℕ} (r : Record) → Candidate shape (bitAt words) r → Boxable shape words (withVariance r)
 unfolding withVariance
 candidate-boxable r candidate =
     let keeps : (k : ℕ) → (k ≡ field.variance → ⊥) → getD (set r field.variance (varianceBits r)) k 0 ≡ getD r k 0 =
     λ k other. getD-set-other r field.variance k (varianceBits r) 0 other in
     record {
       inside = rw (keeps 0 (λ e. omega arith), keeps 1 (λ e. omega arith)) (candidate .inside);
+      flanked = rw (keeps 0 (λ e. omega arith), keeps 1 (λ e. omega arith)) (candidate .flanked);
       least = rw (keeps 2 (λ e. omega arith)) (candidate .least);
       most = rw (keeps 2 (λ e. omega arith)) (omega (arith, candidate .most));
     }
 
-module _ {words marks records : List ℕ} {shape : Shape} {capacity : ℕ} (image : Image shape words marks) (room : Room capacity records 0) where
+module _ (setting : Setting) {words marks records : List ℕ} (image : Image (setting .shape) words marks) (room : Room (setting .capacity) records 0) where
+  abbrev shape : Shape
+  shape = setting .shape
+
+  abbrev capacity : ℕ
+  capacity = setting .capacity
+
+  abbrev boxing : List Record → Reads (List Record)
+  boxing rs = boxedAll (setting .ellipse) shape rs
+
   abbrev sweep : Reads (List Record)
   sweep = concentricCircles shape capacity
 
@@ -60,8 +71,8 @@ module _ {words marks records : List ℕ} {shape : Shape} {capacity : ℕ} (imag
     counted : n ≡ length candidates
     counted = swept .stored .counted
 
-    fits : Each (Candidate shape) candidates × (length candidates ≤ capacity + 1)
-    fits = always-ran (all-candidates shape capacity (image .limits)) ran
+    fits : Each (Candidate shape (bitAt words)) candidates × (length candidates ≤ capacity + 1)
+    fits = on-ran (all-candidates shape capacity (image .limits) (bitAt words)) ran
 
     stored : n ≤ capacity → rows n c₁ ≡ candidates
     stored held =
@@ -76,7 +87,7 @@ module _ {words marks records : List ℕ} {shape : Shape} {capacity : ℕ} (imag
       most = room .most;
       held = omega (arith, same, room .held);
       few = omega (arith, counted, fits .1);
-      small = λ held. rw (stored held) (each-weaker (Candidate shape) Small (λ r candidate. candidate .small) candidates (fits .0));
+      small = λ held. rw (stored held) (each-weaker (Candidate shape (bitAt words)) Small (λ r candidate. candidate .small) candidates (fits .0));
     }
 
     -- after the verdict
@@ -94,11 +105,11 @@ module _ {words marks records : List ℕ} {shape : Shape} {capacity : ℕ} (imag
       unfolding laidOut
       laid = judged .laid ∙ ap (λ (t : List ℕ). flat kept ++ zeros (40 * (capacity - length kept)) ++ t) beyond
 
-      sought : {boxed : List Record} {m₂ c₃ : List ℕ} → Ran (boxedAll shape kept) words m₁ boxed m₂ → c₃ ≡ laidOut capacity boxed records
-          → Sought (searchAt shape capacity) capacity words marks records r m₂ c₃
+      sought : {boxed : List Record} {m₂ c₃ : List ℕ} → Ran (boxing kept) words m₁ boxed m₂ → c₃ ≡ laidOut capacity boxed records
+          → Sought (searchAt setting) capacity words marks records r m₂ c₃
       unfolding searchAt
       sought {boxed} {m₂} boxes stays =
-          let end : Ran (searchAt shape capacity) words marks (record { counts = (verdict capacity candidates) .counts; records = boxed }) m₂ =
+          let end : Ran (searchAt setting) words marks (record { counts = (verdict capacity candidates) .counts; records = boxed }) m₂ =
           ran-bind _ ran (ran-bind _ boxes (ran-done _)) in
           record {
             counts = judged .counts ∙ ap (λ (f : Result). f .counts) (end .result);
@@ -106,7 +117,7 @@ module _ {words marks records : List ℕ} {shape : Shape} {capacity : ℕ} (imag
             marked = end .marked;
           }
 
-      pub none-kept : r .kept ≡ 0 → Sought (searchAt shape capacity) capacity words marks records r m₁ c₂
+      pub none-kept : r .kept ≡ 0 → Sought (searchAt setting) capacity words marks records r m₁ c₂
       unfolding boxedAll
       none-kept none =
           let nothing : kept ≡ [] = no-records kept (omega (arith, number, none)) in
@@ -120,20 +131,21 @@ module _ {words marks records : List ℕ} {shape : Shape} {capacity : ℕ} (imag
         buffer-room =
             omega (arith, room .held, ap (λ (c : Counts). c .kept) (judged .counts), counted-few (verdict-counted capacity candidates (fits .1)))
 
-        pub boxable : AllBoxable shape k c₂
+        pub boxable : AllBoxable shape words k c₂
         boxable = record {
           held = buffer-room;
           each = rw (judged .records)
-              (each-kept capacity candidates (Boxable shape) (each-ranked (Candidate shape) (Boxable shape) candidate-boxable candidates (fits .0)));
+              (each-kept capacity candidates (Boxable shape words)
+              (each-ranked (Candidate shape (bitAt words)) (Boxable shape words) candidate-boxable candidates (fits .0)));
         }
 
         -- after the boxes
-        module _ {m₂ c₃ : List ℕ} (boxing : Boxed (boxedAll shape (rows k c₂)) k words m₁ c₂ m₂ c₃) where
-          boxes : Boxed (boxedAll shape kept) k words m₁ c₂ m₂ c₃
-          boxes = rw (judged .records) at boxing
+        module _ {m₂ c₃ : List ℕ} (boxes-run : Boxed (boxing (rows k c₂)) k words m₁ c₂ m₂ c₃) where
+          boxes : Boxed (boxing kept) k words m₁ c₂ m₂ c₃
+          boxes = rw (judged .records) at boxes-run
 
           abbrev boxed : List Record
-          boxed = valueOf (boxedAll shape kept) words
+          boxed = valueOf (boxing kept) words
 
           as-many : length boxed ≡ k
           as-many = sym (ap length (boxes .stored .records)) ∙ length-rows k c₃
@@ -154,5 +166,5 @@ module _ {words marks records : List ℕ} {shape : Shape} {capacity : ℕ} (imag
               ∙ ap (λ (j : ℕ). flat boxed ++ (zeros (40 * (capacity - j)) ++ drop (40 * capacity) records)) (sym number ∙ sym as-many)
               ∙ sym (append-assoc (flat boxed) _ _)
 
-          pub some-kept : Sought (searchAt shape capacity) capacity words marks records r m₂ c₃
+          pub some-kept : Sought (searchAt setting) capacity words marks records r m₂ c₃
           some-kept = sought (record { result = refl; marked = boxes .marked }) stays

@@ -1,28 +1,52 @@
--- What the counts of a search are, by its answer, and that as many records are kept as it counts. Assumes nothing.
-use Prim.Native.Nat.{ℕ, _+_, _≤_}
+-- What the counts of a search are, by its answer, and that as many records are kept as it counts. And that from every centre found the walks are short.
+-- Assumes nothing.
+use Prim.Native.Nat.{ℕ, _+_, _*_, _≤_, _<_}
 use mathlib.Core.List.{List}
 use mathlib.Core.Path.{_≡_, sym, _∙_}
 use lib.ListN.{length}
+use Rattle.reads.specs.Reads.{value}
+use Rattle.reads.specs.Bits.{bitAt}
+use Rattle.reads.specs.Runs.{valueOf}
 use Rattle.reads.specs.ReadsLaws.{Always, always-done, always-bind}
 use Rattle.bit_matrix.specs.declared.Shape.{Shape}
 use Rattle.bit_matrix.specs.ShapeClauses.{Limits}
 use Rattle.records.specs.Records.{Record}
 use Rattle.records.specs.RecordsClauses.{Each}
+use Rattle.records.specs.RecordsLaws.{each-weaker}
 use Rattle.detector_candidate.specs.CandidateLaws.{Candidate}
+use Rattle.detector_candidates.specs.Candidates.{concentricCircles}
 use Rattle.detector_candidates.specs.CandidatesLaws.{all-candidates}
+use Rattle.detector_walks.specs.Walks.{findWidthAtDegree}
+use Rattle.detector_walks.specs.LengthLaws.{short-length}
 use Rattle.detector_verdict.specs.Verdict.{verdict}
 use Rattle.detector_verdict.specs.VerdictLaws.{Counted, verdict-counted, kept-counted}
+use Rattle.detector_boxes.specs.Boxing.{circleOf}
 use Rattle.detector_boxes.specs.BoxingLaws.{boxed-length}
+use Rattle.detector_search.specs.declared.Setting.{Setting}
 use Rattle.detector_search.specs.Search.{Result, searchAt}
 
 pub record Consistent (capacity : ℕ) (r : Result) : Type 0 where
   pub counted : Counted capacity (r .counts)
   pub kept : r .counts .kept ≡ length (r .records)
 
-pub search-counted : (shape : Shape) (capacity : ℕ) → Limits shape → Always (Consistent capacity) (searchAt shape capacity)
+pub search-counted : (setting : Setting) → Limits (setting .shape) → Always (Consistent (setting .capacity)) (searchAt setting)
 unfolding searchAt
-search-counted shape capacity limits =
-    always-bind {Q = λ (rs : List Record). Each (Candidate shape) rs × (length rs ≤ capacity + 1)} _ (all-candidates shape capacity limits) λ candidates fits.
+search-counted setting limits =
+    let shape = setting .shape in
+    let capacity = setting .capacity in
+    always-bind {Q = λ (rs : List Record). length rs ≤ capacity + 1} _ (record { on = λ image. all-candidates shape capacity limits image .holds .1 })
+    λ candidates few.
     always-bind {Q = λ (bs : List Record). length bs ≡ length ((verdict capacity candidates) .kept)} _
-    (boxed-length shape ((verdict capacity candidates) .kept))
-    λ records same. always-done (record { counted = verdict-counted capacity candidates (fits .1); kept = kept-counted capacity candidates ∙ sym same })
+    (boxed-length (setting .ellipse) shape ((verdict capacity candidates) .kept))
+    λ records same. always-done (record { counted = verdict-counted capacity candidates few; kept = kept-counted capacity candidates ∙ sym same })
+
+-- from every centre that the sweep finds each of the 72 lengths, left and right together, is under 50,000
+pub found-short : (shape : Shape) (capacity : ℕ) → Limits shape → (words : List ℕ)
+    → Each (λ (r : Record). (i : ℕ) → i < 72 → (valueOf (findWidthAtDegree shape (circleOf r .center) (5 * i)) words) .length < 50000)
+    (valueOf (concentricCircles shape capacity) words)
+unfolding valueOf
+found-short shape capacity limits words =
+    each-weaker (Candidate shape (bitAt words)) _
+    (λ r candidate. short-length limits (circleOf r .center) (candidate .inside) words (candidate .flanked))
+    (value (concentricCircles shape capacity) (bitAt words))
+    (all-candidates shape capacity limits (bitAt words) .holds .0)

@@ -40,8 +40,8 @@ pub record Ended (shape : Shape) (turn : Turn) : Type 0 where
   pub even : turn .degree % 2 ≡ 0
   pub low : turn .degree ≤ 348
   pub rotation : rotationBits (turn .outcome) ≡ toBits binary32 (real (turn .degree))
-  pub scale-least : ifOutcome (λ r. 1) 0 1 (turn .outcome) ≤ turn .scale
-  pub scale-most : turn .scale ≤ ifOutcome (λ r. 5) 0 5 (turn .outcome)
+  pub scale-least : ifOutcome (λ r. 1) 0 1 0 (turn .outcome) ≤ turn .scale
+  pub scale-most : turn .scale ≤ ifOutcome (λ r. 5) 0 5 0 (turn .outcome)
   pub inside : Inside shape (turn .center .x) (turn .center .y)
 
 neither : (a b : Bool) → (a || b) ≡ false → (a ≡ false) × (b ≡ false)

@@ -1,10 +1,11 @@
 -- How large a float is at least, through Rust's operators at binary32: `Far s n x` says that x has the sign s and is n or more in size, an infinity included.
 -- And where whole numbers are kept exactly: `HasValue x s n 1`. Assumes nothing.
-use mathlib.Core.Path.{_≡_, refl, sym, ap, _∙_}
-use mathlib.Core.Bool.{Bool, true, false, not, cond, true≢false}
-use Prim.Native.Nat.{ℕ, zero, suc, _+_, _-_, _*_, _^_, _≤_, _<_}
-use native.Mathlib.Nat.{le-trans, le-of-eq, mul-comm, mul-assoc, mul-one, zero-mul, mul-zero, mul-right-comm, mul-mul-mul-comm, mul-sub, add-mul}
-use native.Mathlib.Nat.{mul-le-mul-right, le-of-mul-le-mul-right, mul-pos, le-div-iff-mul-le}
+use mathlib.Core.Path.{_≡_, refl, sym, ap, subst, _∙_}
+use mathlib.Core.Bool.{Bool, true, false, not, cond, _&&_, Bool·beq, true≢false}
+use Prim.Native.Nat.{ℕ, zero, suc, _+_, _-_, _*_, _/_, _^_, _≤_, _<_}
+use native.Mathlib.Nat.{le-trans, le-of-eq, mul-comm, mul-assoc, mul-one, zero-mul, mul-right-comm, mul-mul-mul-comm, mul-sub, add-mul}
+use native.Mathlib.Nat.{mul-le-mul-right, mul-lt-mul-of-pos-right, le-of-mul-le-mul-right, eq-of-mul-eq-mul-right, mul-pos, le-div-iff-mul-le, mul-div-cancel}
+use native.Mathlib.Decide.{decLt}
 use native.Mathlib.Omega.{arith}
 use lib.Dec.{T, ltb}
 use lib.Pow.{pow-pos}
@@ -132,16 +133,26 @@ sub-whole (fin false m e) (fin false n d) a b p q h small =
     rw (le-ltb A B (omega arith), round-same binary32 false (A - B) c (a - b) 1 (mul-pos (down-pos e) (down-pos d)) (pow-pos 0) size)
     (round-whole binary32 false (a - b) (omega arith))
 
-pub mul-zero-value : (s : Bool) (x y : Float) (u v : ℕ) → HasValue x s u v → HasValue y false 0 1 → HasValue (mul binary32 x y) s 0 1
+-- the product of a value u / v and a whole number k, where it is a whole number n
+pub mul-whole : (s : Bool) (x y : Float) (u v k n : ℕ) → HasValue x s u v → HasValue y false k 1 → 0 < v → u * k ≡ n * v → n ≤ 2 ^ 24
+    → HasValue (mul binary32 x y) s n 1
 unfolding mul
-mul-zero-value s nan y u v p q = absurd p
-mul-zero-value s (inf t) y u v p q = absurd p
-mul-zero-value s (fin t m e) nan u v p q = absurd q
-mul-zero-value s (fin t m e) (inf w) u v p q = absurd q
-mul-zero-value s (fin t m e) (fin w n d) u v p q =
-    let none : n * up d ≡ 0 = omega (arith, q .1) in
-    rw (like t w s (p .0) (q .0), none, mul-zero, round-same binary32 s 0 (down e * down d) 0 1 (mul-pos (down-pos e) (down-pos d)) (pow-pos 0) (omega arith))
-    (round-whole binary32 s 0 (omega arith))
+mul-whole s nan y u v k n p q P e small = absurd p
+mul-whole s (inf t) y u v k n p q P e small = absurd p
+mul-whole s (fin t m d) nan u v k n p q P e small = absurd q
+mul-whole s (fin t m d) (inf w) u v k n p q P e small = absurd q
+mul-whole s (fin t m d) (fin w m' d') u v k n p q P e small =
+    let c = down d * down d' in
+    let exact : m * up d * (m' * up d') * 1 ≡ n * c =
+    mul-one (m * up d * (m' * up d'))
+    ∙ eq-of-mul-eq-mul-right v P (m * up d * (m' * up d')) (n * c)
+    (swap (m * up d) u (m' * up d') k (down d) (down d') v (p .1) (q .1) ∙ ap (λ (z : ℕ). z * c) e ∙ mul-right-comm n v c)
+    in
+    rw (like t w s (p .0) (q .0), round-same binary32 s (m * up d * (m' * up d')) c n 1 (mul-pos (down-pos d) (down-pos d')) (pow-pos 0) exact)
+    (round-whole binary32 s n small)
+
+pub mul-zero-value : (s : Bool) (x y : Float) (u v : ℕ) → HasValue x s u v → 0 < v → HasValue y false 0 1 → HasValue (mul binary32 x y) s 0 1
+mul-zero-value s x y u v p P q = mul-whole s x y u v 0 0 p q P (omega arith) (omega arith)
 
 spread : (n a de dd : ℕ) → n * de ≤ a → n * (de * dd) ≤ a * dd
 spread n a de dd h = le-trans (le-of-eq (sym (mul-assoc n de dd))) (mul-le-mul-right dd h)
@@ -204,3 +215,89 @@ unfolding toUnsigned abs
 cell-far s nan n h p = absurd p
 cell-far s (inf t) n h p = omega arith
 cell-far s (fin t m e) n h p = omega (arith, le-div-iff-mul-le (down-pos e) .1 (p .1))
+
+-- ---- whole numbers in size, whatever their sign
+pub record Sized (n : ℕ) (x : Float) : Type 0 where
+  pub sign : Bool
+  pub value : HasValue x sign n 1
+
+-- the sign of one that is far
+pub value-far : (s t : Bool) (x : Float) (n m : ℕ) → HasValue x s n 1 → Far t m x → HasValue x t n 1
+value-far s t nan n m p q = absurd p
+value-far s t (inf w) n m p q = absurd p
+value-far s t (fin w k e) n m p q = (q .0, p .1)
+
+-- how large a sum is, by the signs
+abbrev pub apart : Bool → ℕ → Bool → ℕ → ℕ
+apart s a t b = cond (Bool·beq s t) (a + b) (a - b + (b - a))
+
+pub apart-zero : (s t : Bool) (a : ℕ) → apart s a t 0 ≡ a
+apart-zero true true a = omega arith
+apart-zero true false a = omega arith
+apart-zero false true a = omega arith
+apart-zero false false a = omega arith
+
+pub zero-apart : (s t : Bool) (b : ℕ) → apart s 0 t b ≡ b
+zero-apart true true b = omega arith
+zero-apart true false b = omega arith
+zero-apart false true b = omega arith
+zero-apart false false b = omega arith
+
+round-sized : (s : Bool) (n a c : ℕ) → 0 < c → a ≡ n * c → n ≤ 2 ^ 24 → Sized n (round binary32 s a c)
+round-sized s n a c C e small = record {
+  sign = s;
+  value = rw (round-same binary32 s a c n 1 C (pow-pos 0) (mul-one a ∙ e)) (round-whole binary32 s n small);
+}
+
+-- of unlike signs; w is the sign that a difference which is not below zero gets
+unlike-sized : (s w t : Bool) (a b c : ℕ) → 0 < c → a + b ≤ 2 ^ 24
+    → Sized (a - b + (b - a)) (cond (ltb (a * c) (b * c)) (round binary32 t (b * c - a * c) c) (round binary32 (s && w) (a * c - b * c) c))
+unlike-sized s w t a b c C small = go (decLt a b)
+  where
+    go : Dec (a < b) → Sized (a - b + (b - a)) (cond (ltb (a * c) (b * c)) (round binary32 t (b * c - a * c) c) (round binary32 (s && w) (a * c - b * c) c))
+    go (yes h) =
+        let less : a * c < b * c = mul-lt-mul-of-pos-right h C in
+        let size : b - a ≡ a - b + (b - a) = omega arith in
+        rw (lt-ltb _ _ less) (subst (λ (n : ℕ). Sized n (round binary32 t (b * c - a * c) c)) size
+        (round-sized t (b - a) (b * c - a * c) c C (sym (cut-mul b a c)) (omega arith)))
+    go (no h) =
+        let least : b * c ≤ a * c = mul-le-mul-right c (omega arith) in
+        let size : a - b ≡ a - b + (b - a) = omega arith in
+        rw (le-ltb _ _ least) (subst (λ (n : ℕ). Sized n (round binary32 (s && w) (a * c - b * c) c)) size
+        (round-sized (s && w) (a - b) (a * c - b * c) c C (sym (cut-mul a b c)) (omega arith)))
+
+sum-sized : (s t : Bool) (a b c : ℕ) → 0 < c → a + b ≤ 2 ^ 24 → Sized (apart s a t b) (sum binary32 s (a * c) t (b * c) c)
+unfolding sum
+sum-sized true true a b c C small = round-sized true (a + b) (a * c + b * c) c C (sym (add-mul a b c)) small
+sum-sized false false a b c C small = round-sized false (a + b) (a * c + b * c) c C (sym (add-mul a b c)) small
+sum-sized true false a b c C small = unlike-sized true (ltb (b * c) (a * c)) false a b c C small
+sum-sized false true a b c C small = unlike-sized false (ltb (b * c) (a * c)) true a b c C small
+
+pub add-sized : (s t : Bool) (x y : Float) (a b : ℕ) → HasValue x s a 1 → HasValue y t b 1 → a + b ≤ 2 ^ 24 → Sized (apart s a t b) (add binary32 x y)
+unfolding add
+add-sized s t nan y a b p q small = absurd p
+add-sized s t (inf w) y a b p q small = absurd p
+add-sized s t (fin w m e) nan a b p q small = absurd q
+add-sized s t (fin w m e) (inf w') a b p q small = absurd q
+add-sized s t (fin w m e) (fin w' k d) a b p q small =
+    let c = down e * down d in
+    let l : m * up e * down d ≡ a * c = widen (m * up e) a (down e) (down d) (p .1) in
+    let r : k * up d * down e ≡ b * c = widen (k * up d) b (down d) (down e) (q .1) ∙ ap (λ (z : ℕ). b * z) (mul-comm (down d) (down e)) in
+    rw (p .0, q .0, l, r) (sum-sized s t a b c (mul-pos (down-pos e) (down-pos d)) small)
+
+pub sub-zero-sized : (s t : Bool) (x z : Float) (a : ℕ) → HasValue x s a 1 → HasValue z t 0 1 → a ≤ 2 ^ 24 → Sized a (sub binary32 x z)
+unfolding sub
+sub-zero-sized s t x z a p q small =
+    subst (λ (n : ℕ). Sized n (add binary32 x (neg z))) (apart-zero s (not t) a) (add-sized s (not t) x (neg z) a 0 p (neg-zero t z q) (omega arith))
+
+pub cell-sized : (x : Float) (n : ℕ) → n < 2 ^ 32 → Sized n x → toUnsigned 32 (abs x) ≡ n
+unfolding toUnsigned abs
+cell-sized x n h sized = go x (sized .value)
+  where
+    go : (x : Float) → HasValue x (sized .sign) n 1 → toUnsigned 32 (abs x) ≡ n
+    go nan p = absurd p
+    go (inf t) p = absurd p
+    go (fin t m e) p =
+        let whole : m * up e ≡ n * down e = sym (mul-one (m * up e)) ∙ p .1 in
+        let back : m * up e / down e ≡ n = ap (λ (z : ℕ). z / down e) whole ∙ mul-div-cancel n (down-pos e) in
+        rw back (omega arith)

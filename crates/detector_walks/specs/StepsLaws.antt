@@ -1,14 +1,17 @@
--- How many steps a walk to the right takes at most: few enough at every degree for f32 to count them, and under 17,000 at 7 and 97 degrees. And what is
--- known of the sine and the cosine there. The bounds are tests that antt computes over the table of sines. Assumes nothing.
-use mathlib.Core.Path.{_≡_, sym, subst}
-use mathlib.Core.Bool.{Bool, not, _||_}
+-- How many steps a walk to the right takes at most: few enough at every degree for f32 to count them, under 17,000 at 7 and 97 degrees, and under 47,000 at
+-- the multiples of 5 degrees but 0 and 180. And what is known of the sine and the cosine there. The bounds are tests that antt computes over the
+-- table of sines. Assumes nothing.
+use mathlib.Core.Path.{_≡_, refl, sym, subst}
+use mathlib.Core.Bool.{Bool, true, false, not, _||_}
+use mathlib.Core.Logic.{_⊎_, inl, inr}
 use Prim.Native.Nat.{ℕ, zero, suc, _+_, _*_, _/_, _%_, _^_, _<_, _≤_}
 use native.Mathlib.Nat.{mod-lt, mul-comm, le-of-eq, le-trans, le-of-lt, div-lt-iff-lt-mul}
 use native.Mathlib.Omega.{arith}
-use lib.Dec.{T, leb, eqb, leb→le, eqb→eq, lit<}
+use lib.Dec.{T, leb, ltb, eqb, leb→le, ltb→lt, eqb→eq, lit<}
 use lib.IntN.{ℤ, pos, negsuc, natAbs}
 use lib.Ieee.{ofBits}
 use lib.Ieee.Exact.{HasValue}
+use borrow.Author.Tests.{eqb-true}
 use Rattle.bit_matrix.specs.declared.Shape.{Shape}
 use Rattle.bit_matrix.specs.Shape.{shapeOf, size}
 use Rattle.bit_matrix.specs.ShapeClauses.{Limits}
@@ -105,3 +108,32 @@ steps-at-7 shape = lit< tt
 pub steps-at-97 : (shape : Shape) → stepsRight shape (angleOf 97) < 17000
 unfolding stepsOf sineOf scaled ofBits
 steps-at-97 shape = lit< tt
+
+-- where the sine is 0 a thousand words alone take more than 47,000 steps; with fewer it is not 0, and no image's words add any
+abbrev thousandWords : Shape
+thousandWords = shapeOf 64 1000
+
+few-sloped : (shape : Shape) (u : ℤ) → stepsOf thousandWords u < 47000 → stepsOf shape u < 47000
+unfolding stepsOf
+few-sloped shape (pos zero) h = absurd (omega arith)
+few-sloped shape (pos (suc n)) h = h
+few-sloped shape (negsuc n) h = h
+
+fifthAt : ℕ → Bool
+fifthAt i = eqb i 0 || eqb i 36 || ltb (stepsOf thousandWords (scaledSine (5 * i))) 47000
+
+fifth-pass : T (every fifthAt 72)
+unfolding fifthAt stepsOf sineOf scaled ofBits
+fifth-pass = tt
+
+pub steps-at-fifth : (shape : Shape) (i : ℕ) → i < 72 → (i ≡ 0) ⊎ (i ≡ 36) ⊎ (stepsRight shape (angleOf (5 * i)) < 47000)
+unfolding fifthAt
+steps-at-fifth shape i h = go (eqb i 0) (eqb i 36) refl refl (every-at fifthAt 72 fifth-pass i h)
+  where
+    few : Bool
+    few = ltb (stepsOf thousandWords (scaledSine (5 * i))) 47000
+
+    go : (a b : Bool) → eqb i 0 ≡ a → eqb i 36 ≡ b → T (a || b || few) → (i ≡ 0) ⊎ (i ≡ 36) ⊎ (stepsRight shape (angleOf (5 * i)) < 47000)
+    go true b e f t = inl (eqb-true i 0 e)
+    go false true e f t = inr (inl (eqb-true i 36 f))
+    go false false e f t = inr (inr (few-sloped shape (scaledSine (5 * i)) (ltb→lt _ 47000 t)))

@@ -1,6 +1,5 @@
 // `find_width_at_degree` of detector.rs: the walks from a centre to the left and to the right, column by column of the centre's row, each
 // point turned about the centre, until one is black or lies past the image's last word. Each stored bit that is read is marked.
-// The source's first result, the length of both walks, is left out: the corrected centre has no use for it.
 use bit_matrix::Shape;
 use rxing_result_point::Point;
 use rxing_result_point::PointU;
@@ -9,11 +8,12 @@ ghost use mathlib.Core.Path.{_≡_};
 ghost use Prim.Native.Nat.{_+_, _^_, _≤_, _<_};
 ghost use Rattle.reads.specs.RunsClauses.{Ran};
 ghost use Rattle.bit_matrix.specs.ShapeClauses.{Image, Inside};
-ghost use Rattle.detector_walks.specs.Walks.{walkPoint, whitePixel, whitePoint, firstColumn, walk, findWidthAtDegree};
+ghost use Rattle.detector_walks.specs.Walks.{walkPoint, whitePixel, whitePoint, firstColumn, walk, widthOf, findWidthAtDegree};
 ghost use Rattle.detector_walks.specs.WalksClauses.{OfDegree, Lent};
 
-// The points where the two walks at a degree end.
-pub struct Ends {
+// What the two walks at a degree come to: how many steps they took together, and the points where they end.
+pub struct Width {
+    pub length: u32,
     pub left: Point,
     pub right: Point,
 }
@@ -69,7 +69,7 @@ fn walk_point(center: PointU, angle: Angle, x: u32) -> Point
     rxing_result_point::turn(center, PointU { x, y }, angle)
 }
 
-// The point where a walk ends. To the left column 0 is looked at too, before the test that ends the walk there.
+// The column where a walk ends. To the left column 0 is looked at too, before the test that ends the walk there.
 fn walk(
     words: &[u64],
     marks: &mut [u64],
@@ -77,7 +77,7 @@ fn walk(
     center: PointU,
     angle: Angle,
     left: bool,
-) -> Point
+) -> u32
     requires { ⌜ Image shape (now words) (now marks) × Inside shape (center .x) (center .y) × OfDegree angle ⌝ }
     ensures { λ r. ⌜ Ran (walk shape center angle left) (now (words .entry)) (now (marks .entry)) r (now (marks .exit)) ⌝ }
 {
@@ -85,14 +85,26 @@ fn walk(
     while goes_on(words, marks, shape, center, angle, x) {
         if left {
             if x == 0 {
-                return walk_point(center, angle, x);
+                return x;
             }
             x -= 1;
         } else {
             x += 1;
         }
     }
-    walk_point(center, angle, x)
+    x
+}
+
+// The width between the columns where the walks end.
+fn width_of(center: PointU, angle: Angle, left: u32, right: u32) -> Width
+    requires { ⌜ (left ≤ center .x) × (center .x < right) ⌝ }
+    ensures { λ r. ⌜ r ≡ widthOf center angle left right ⌝ }
+{
+    Width {
+        length: center.x - left + (right - (center.x + 1)),
+        left: walk_point(center, angle, left),
+        right: walk_point(center, angle, right),
+    }
 }
 
 // Both walks. They end at every degree.
@@ -103,12 +115,12 @@ pub fn find_width_at_degree(
     center: PointU,
     table: &[f32; 360],
     degree: u32,
-) -> Ends
+) -> Width
     requires { ⌜ Lent shape (now words) (now marks) center (now table) ⌝ }
     ensures { λ r. ⌜ Ran (findWidthAtDegree shape center degree) (now (words .entry)) (now (marks .entry)) r (now (marks .exit)) ⌝ }
 {
     let angle = sines::angle_of(table, degree);
     let left = walk(words, marks, shape, center, angle, true);
     let right = walk(words, marks, shape, center, angle, false);
-    Ends { left, right }
+    width_of(center, angle, left, right)
 }

@@ -9,15 +9,15 @@ use Prim.Native.Nat.{ℕ, _+_, _-_, _*_, _/_, _^_, _≤_, _<_}
 use native.Mathlib.Nat.{le-trans, mul-comm, mul-assoc, mul-left-comm, mul-right-comm, mul-one, mul-pos, mul-sub, add-mul, mul-le-mul-right, eq-or-lt-of-le}
 use native.Mathlib.Omega.{arith}
 use lib.Dec.{T, ltb, eqb, ltb→lt, nltb→le, lit<}
-use lib.Ieee.{Float, nan, inf, fin, binary32, up, down, round, sum, sub, div, lt, ofInt}
+use lib.Ieee.{Float, nan, inf, fin, binary32, up, down, round, sum, sub, div, lt}
 use lib.Ieee.Fits.{down-pos}
 use lib.Ieee.Exact.{HasValue}
-use lib.Ieee.Back.{round-whole}
 use lib.Ieee.Positive.{num, den, den-pos}
 use lib.Ieee.Scale.{round-same}
 use borrow.Author.Tests.{ne-eqb}
 use Rattle.ieee.specs.Sign.{abs}
 use Rattle.rxing_result_point.specs.Points.{real}
+use Rattle.rxing_result_point.specs.PointsLaws.{real-value}
 use Rattle.detector_widths.specs.Widths.{passes}
 use Rattle.detector_widths.specs.WidthsF32.{moduleSize, passesF32}
 use Rattle.ieee.specs.RoundLaws.{abs-round, Plain}
@@ -81,10 +81,6 @@ div-whole (fin false m e) (fin false n d) a c k C K v w =
     rw not-zero
     (round-same binary32 false (m * up e * down d) (n * up d * down e) a (c * k) (mul-pos (omega arith) (down-pos e)) (mul-pos C K)
     (top ∙ ap (λ (z : ℕ). z * (k * down d)) (v .1) ∙ bottom))
-
-real-value : (n : ℕ) → n ≤ 2 ^ 24 → HasValue (real n) false n 1
-unfolding ofInt
-real-value n h = round-whole binary32 false n h
 
 -- ---- the order of |M - b| and M / 2 by the whole-number test, for M = a / c between the 64ths below and above total / 5
 -- the 64ths above, thrice: where 3 total = 10 b, total / 5 is whole

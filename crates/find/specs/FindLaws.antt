@@ -47,28 +47,29 @@ refused-long file long number =
     )
 
 -- the run of a refused file
-refused-run : (file words records marks : List ℕ) (n : ℕ) → refusal file ≡ n → (n ≡ 0 → ⊥)
-    → fileRun file words records marks ≡ filed words (run (refusedReport n) records marks)
+refused-run : (file words records marks : List ℕ) (ellipse : Bool) (n : ℕ) → refusal file ≡ n → (n ≡ 0 → ⊥)
+    → fileRun file words records marks ellipse ≡ filed words (run (refusedReport n) records marks)
 unfolding fileRun orSix refusedOr
-refused-run file words records marks n e refused = rw (refusal-six, e, ne-eqb n 0 refused, ne-eqb n 0 refused) refl
+refused-run file words records marks ellipse n e refused = rw (refusal-six, e, ne-eqb n 0 refused, ne-eqb n 0 refused) refl
 
 printed-refused : (file : List ℕ) (n : ℕ) → refusal file ≡ n → (n ≡ 0 → ⊥) → printed file ≡ textOf (run (refusedReport n) (replicate 16000 0) [])
 unfolding printed
 printed-refused file n e refused =
     let lent : List ℕ = replicate (lentWords file) 0 in
-    ap (λ (x : FileRun). textOf (x .run)) (refused-run file lent (replicate 16000 0) lent n e refused)
+    ap (λ (x : FileRun). textOf (x .run)) (refused-run file lent (replicate 16000 0) lent false n e refused)
 
 -- so the program reads no more of it: the run of the start is that of the whole input, whatever is lent, and so is what is printed
-pub start-is-enough : (input words records marks : List ℕ) → fileRun (take 65536 input) words records marks ≡ fileRun input words records marks
-start-is-enough input words records marks = go (ltb 65536 (length input)) refl
+pub start-is-enough : (input words records marks : List ℕ) (ellipse : Bool)
+    → fileRun (take 65536 input) words records marks ellipse ≡ fileRun input words records marks ellipse
+start-is-enough input words records marks ellipse = go (ltb 65536 (length input)) refl
   where
-    go : (b : Bool) → ltb 65536 (length input) ≡ b → fileRun (take 65536 input) words records marks ≡ fileRun input words records marks
+    go : (b : Bool) → ltb 65536 (length input) ≡ b → fileRun (take 65536 input) words records marks ellipse ≡ fileRun input words records marks ellipse
     go true e =
         let long : 65536 < length input = ltb-true _ _ e in
         let same : refusal (take 65536 input) ≡ refusal input = refusal-prefix fileKind leastSide input 65536 (omega arith) (omega arith) in
-        refused-run (take 65536 input) words records marks (refusal input) same (refused-long input long)
-        ∙ sym (refused-run input words records marks (refusal input) refl (refused-long input long))
-    go false e = ap (λ (file : List ℕ). fileRun file words records marks) (take-all 65536 input (ltb-false _ _ e))
+        refused-run (take 65536 input) words records marks ellipse (refusal input) same (refused-long input long)
+        ∙ sym (refused-run input words records marks ellipse (refusal input) refl (refused-long input long))
+    go false e = ap (λ (file : List ℕ). fileRun file words records marks ellipse) (take-all 65536 input (ltb-false _ _ e))
 
 pub printed-start : (input : List ℕ) → printed (take 65536 input) ≡ printed input
 printed-start input = go (ltb 65536 (length input)) refl

@@ -36,6 +36,7 @@ fn put_lines(file: &[u8], text: &mut [u8]) -> usize
         &mut words[..size],
         &mut records,
         &mut marks[..size],
+        false,
     );
     text_run::put_run(
         text,

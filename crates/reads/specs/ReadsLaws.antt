@@ -1,10 +1,14 @@
--- The laws of sequence, one run on images that agree at the bits read, and how it is shown that a fact always holds and that two programs are the same on
--- every image. Assumes nothing.
+-- The laws of sequence, one run on images that agree at the bits read, and how it is shown that a fact holds on one image or always, and that two programs
+-- are the same on every image. Assumes nothing.
 use Prim.Native.Nat.{ℕ}
 use mathlib.Core.Bool.{Bool, true, false, cond}
 use mathlib.Core.Path.{_≡_, refl, sym, ap, ap₂, _∙_, fun-ext}
 use mathlib.Core.List.{List, _∷_, _++_, List·Memᴰ, List·Memᴰ·head, List·Memᴰ·tail}
 use Rattle.reads.specs.Reads.{Reads, done, read, _>>=_, value, trace}
+
+-- P holds of the result on this image, of whose bits it may speak
+pub record On {A : Type 0} (image : ℕ → Bool) (P : A → Type 0) (p : Reads A) : Type 0 where
+  pub holds : P (value p image)
 
 -- P holds of the result, whatever the image
 pub record Always {A : Type 0} (P : A → Type 0) (p : Reads A) : Type 0 where
@@ -49,6 +53,29 @@ same-run {A} (read i next) f g agree =
     same-run (next (f i)) f g λ j m. agree j (List·Memᴰ·tail m) in
     let here : g i ≡ f i = agree i (List·Memᴰ·head refl) in
     (ap (λ (b : Bool). value (next b) g) here ∙ rest .0, ap (λ (b : Bool). i ∷ trace (next b) g) here ∙ ap (λ (t : List ℕ). i ∷ t) (rest .1))
+
+-- ---- what holds of the result on an image
+
+module _ (image : ℕ → Bool) {A : Type 0} {P : A → Type 0} where
+  pub on-done : {a : A} → P a → On image P (done a)
+  unfolding value
+  on-done h = record { holds = h }
+
+  -- what holds on every image
+  pub on-always : {p : Reads A} → Always P p → On image P p
+  on-always always = record { holds = always .on image }
+
+  -- after a step of which Q holds
+  pub on-bind : {B : Type 0} {Q : B → Type 0} {p : Reads B} (k : B → Reads A) → On image Q p → ((b : B) → Q b → On image P (k b)) → On image P (p >>= k)
+  on-bind {p = p} k first rest = record { holds = rw value-bind (rest (value p image) (first .holds) .holds) }
+
+  -- after a step whose result is its value
+  pub on-after : {B : Type 0} (p : Reads B) (k : B → Reads A) → ((b : B) → b ≡ value p image → On image P (k b)) → On image P (p >>= k)
+  on-after p k rest = on-bind {Q = λ b. b ≡ value p image} k (record { holds = refl }) rest
+
+  pub on-cond : (t : Bool) {p q : Reads A} → (t ≡ true → On image P p) → (t ≡ false → On image P q) → On image P (cond t p q)
+  on-cond true f g = f refl
+  on-cond false f g = g refl
 
 -- ---- what holds of the result on every image
 

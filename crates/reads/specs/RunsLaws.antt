@@ -8,7 +8,7 @@ use mathlib.Core.List.{List}
 use borrow.Author.Tests.{lt-ltb, le-ltb, le-leb, lt-leb}
 use lib.ListN.{length}
 use Rattle.reads.specs.Reads.{Reads, done, read, _>>=_, value, trace}
-use Rattle.reads.specs.ReadsLaws.{Always, value-bind, trace-bind}
+use Rattle.reads.specs.ReadsLaws.{On, Always, on-always, value-bind, trace-bind}
 use Rattle.reads.specs.Bits.{bitAt, mark, markAll, range}
 use Rattle.reads.specs.BitsLaws.{length-markAll, markAll-append, range-last}
 use Rattle.reads.specs.Runs.{valueOf, marksOf}
@@ -73,10 +73,14 @@ answered e f = sym e ∙ f
 -- for `search`: the return of a function with calls and tests and no loop
 pub ruleset runs = (ran-bind, ran-done, ran-is, ran-then, ran-else, answered, lt-ltb, le-ltb, le-leb, lt-leb)
 
--- what holds of the result on every image holds of a run's
-pub always-ran : {A : Type 0} {P : A → Type 0} {p : Reads A} {words m₀ m₁ : List ℕ} {a : A} → Always P p → Ran p words m₀ a m₁ → P a
+-- what holds of the result on the image of these words holds of a run's
+pub on-ran : {A : Type 0} {P : A → Type 0} {p : Reads A} {words m₀ m₁ : List ℕ} {a : A} → On (bitAt words) P p → Ran p words m₀ a m₁ → P a
 unfolding valueOf
-always-ran {words = words} always ran = rw (ran .result) (always .on (bitAt words))
+on-ran on ran = rw (ran .result) (on .holds)
+
+-- so does what holds on every image
+pub always-ran : {A : Type 0} {P : A → Type 0} {p : Reads A} {words m₀ m₁ : List ℕ} {a : A} → Always P p → Ran p words m₀ a m₁ → P a
+always-ran {words = words} always ran = on-ran (on-always (bitAt words) always) ran
 
 -- ---- a loop
 

@@ -17,9 +17,9 @@ le64 bytes at = le32 bytes at + 4294967296 * le32 bytes (at + 4)
 abbrev pub accepted : Vector → Bool
 accepted v = eqb (v .answer) 0 || eqb (v .answer) 7 || eqb (v .answer) 8 || eqb (v .answer) 9
 
--- after the name, the lengths and the report comes the file, padded to a multiple of 8 bytes
+-- after the name, the option, the lengths and the report comes the file, padded to a multiple of 8 bytes
 abbrev pub recordsAt : Vector → ℕ
-recordsAt v = 56 + (v .file + 7) / 8 * 8
+recordsAt v = 64 + (v .file + 7) / 8 * 8
 
 -- then the kept records, and the marks, of an accepted image
 unfoldable pub keptWords : Vector → ℕ

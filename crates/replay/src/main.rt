@@ -54,7 +54,7 @@ fn agrees(
 ) -> bool
     requires { ⌜ (at + sizeOf vector ≤ length (now pack)) × (length (now words) ≤ 8000) ⌝ }
 {
-    let start = at + 56;
+    let start = at + 64;
     let end = start + vector.file as usize;
     if !same_report(report, vector) {
         return false;
@@ -75,6 +75,20 @@ fn agrees(
     same_marks(marks, pack, at + marks_at(vector), mark_words(vector))
 }
 
+// The search of a file in buffers that hold the pattern.
+fn searched(
+    file: &[u8],
+    words: &mut [u64],
+    records: &mut [u32],
+    marks: &mut [u64],
+    ellipse: u32,
+) -> Report {
+    fill_words(words);
+    fill_records(records);
+    fill_marks(marks);
+    detector::search_file(file, words, records, marks, ellipse != 0)
+}
+
 // Whether a search in these buffers does what the vector at `at` says.
 fn is_right_in(
     pack: &[u8],
@@ -86,12 +100,9 @@ fn is_right_in(
 ) -> bool
     requires { ⌜ (at + sizeOf vector ≤ length (now pack)) × (length (now words) ≤ 8000) ⌝ }
 {
-    fill_words(words);
-    fill_records(records);
-    fill_marks(marks);
-    let start = at + 56;
+    let start = at + 64;
     let end = start + vector.file as usize;
-    let report = detector::search_file(&pack[start..end], words, records, marks);
+    let report = searched(&pack[start..end], words, records, marks, vector.ellipse);
     agrees(pack, at, vector, report, words, records, marks)
 }
 
@@ -124,12 +135,12 @@ fn is_right(pack: &[u8], at: usize, vector: Vector) -> bool
     )
 }
 
-// Writes the name of the vector at `at`: 24 bytes, padded with zeros.
+// Writes the name of the vector at `at`: 28 bytes, padded with zeros.
 fn print_wrong(pack: &[u8], at: usize)
-    requires { ⌜ at + 24 ≤ length (now pack) ⌝ }
+    requires { ⌜ at + 28 ≤ length (now pack) ⌝ }
 {
     let mut end = at;
-    while end < at + 24 && byte(pack, end) != 0 {
+    while end < at + 28 && byte(pack, end) != 0 {
         end += 1;
     }
     io::write_all(STDOUT_FILENO, b"wrong: ");
@@ -141,7 +152,7 @@ fn replay(pack: &[u8]) -> Counts {
     let mut vectors = 0u64;
     let mut wrong = 0u64;
     let mut at = 0usize;
-    while 56 <= pack.len() - at {
+    while 64 <= pack.len() - at {
         let vector = vector_at(pack, at);
         let size = size_of(vector);
         if pack.len() - at < size {

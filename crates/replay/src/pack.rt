@@ -4,8 +4,9 @@ ghost use Prim.Native.Nat.{_+_, _*_, _^_, _≤_, _<_};
 ghost use lib.ListN.{length, getD};
 ghost use Rattle.replay.specs.Pack.{le32, le64, accepted, recordsAt, keptWords, clearedWords, marksAt, markWords, sizeOf};
 
-// What a vector says: the lengths of the lent words, records and marks and of the file, and the report.
+// What a vector says: whether the ellipse check is on, the lengths of the lent words, records and marks and of the file, and the report.
 pub struct Vector {
+    pub ellipse: u32,
     pub words: u32,
     pub records: u32,
     pub marks: u32,
@@ -42,17 +43,18 @@ pub fn u64_at(pack: &[u8], at: usize) -> u64
 
 // The vector at `at`, after its name.
 pub fn vector_at(pack: &[u8], at: usize) -> Vector
-    requires { ⌜ at + 56 ≤ length (now pack) ⌝ }
+    requires { ⌜ at + 64 ≤ length (now pack) ⌝ }
 {
     Vector {
-        words: u32_at(pack, at + 24),
-        records: u32_at(pack, at + 28),
-        marks: u32_at(pack, at + 32),
-        file: u32_at(pack, at + 36),
-        answer: u32_at(pack, at + 40),
-        found: u32_at(pack, at + 44),
-        kept: u32_at(pack, at + 48),
-        marked: u32_at(pack, at + 52),
+        ellipse: u32_at(pack, at + 28),
+        words: u32_at(pack, at + 32),
+        records: u32_at(pack, at + 36),
+        marks: u32_at(pack, at + 40),
+        file: u32_at(pack, at + 44),
+        answer: u32_at(pack, at + 48),
+        found: u32_at(pack, at + 52),
+        kept: u32_at(pack, at + 56),
+        marked: u32_at(pack, at + 60),
     }
 }
 
@@ -79,7 +81,7 @@ pub fn is_accepted(vector: Vector) -> bool
 pub fn records_at(vector: Vector) -> usize
     ensures { λ r. ⌜ (r ≡ recordsAt vector) × (r < 2 ^ 33) ⌝ }
 {
-    56 + (vector.file as usize + 7) / 8 * 8
+    64 + (vector.file as usize + 7) / 8 * 8
 }
 
 // The words of the kept records.
@@ -125,7 +127,7 @@ pub fn mark_words(vector: Vector) -> usize
 
 // The bytes of the whole vector.
 pub fn size_of(vector: Vector) -> usize
-    ensures { λ r. ⌜ (r ≡ sizeOf vector) × (56 ≤ r) ⌝ }
+    ensures { λ r. ⌜ (r ≡ sizeOf vector) × (64 ≤ r) ⌝ }
 {
     marks_at(vector) + 8 * mark_words(vector)
 }

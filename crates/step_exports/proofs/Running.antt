@@ -2,6 +2,7 @@
 -- Assumes nothing.
 use Prim.Native.Nat.{ℕ, _≤_}
 use native.Mathlib.Omega.{arith}
+use mathlib.Core.Bool.{false}
 use mathlib.Core.Path.{_≡_, refl}
 use mathlib.Core.List.{List, [], _∷_}
 use lib.Ieee.{binary32, toBits}
@@ -17,14 +18,14 @@ use Rattle.rxing_result_point.specs.declared.PointU.{PointU}
 use Rattle.records.specs.Records.{capacityOf}
 use Rattle.detector_candidates.specs.Candidates.{concentricCircles}
 use Rattle.detector_candidates.specs.CandidatesClauses.{Room, Listed}
-use Rattle.detector_walks.specs.declared.Ends.{Ends}
+use Rattle.detector_walks.specs.declared.Width.{Width}
 use Rattle.detector_walks.specs.Walks.{findWidthAtDegree}
 use Rattle.detector_center.specs.Center.{corrected}
 use Rattle.detector_circle.specs.declared.Circle.{Circle}
 use Rattle.detector_box.specs.Boxes.{symbolAt}
 use Rattle.detector_symbol.specs.Symbols.{withSymbol}
 use Rattle.step_exports.specs.Row.{blackFrom}
-use Rattle.step_exports.specs.Steps.{through, sampleNumber, pixelWords, endsWords}
+use Rattle.step_exports.specs.Steps.{through, sampleNumber, pixelWords, widthWords}
 use Rattle.step_exports.proofs.Guarding.{pixel-words}
 
 -- a buffer with room for a capacity that is at most its own
@@ -52,13 +53,13 @@ module _ (w h : ℕ) {shape : Shape} (is : shape ≡ shapeOf w h) {words m₀ m�
       → Ran (through pixelWords (corrected (shapeOf w h) center)) words m₀ (a .x ∷ a .y ∷ []) m₁
   corrected-ran center ran = ran-through pixelWords _ (rw is at ran) (pixel-words refl)
 
-  pub walked-ran : (center : PointU) (degree : ℕ) {e : Ends} {a b c d : ℕ}
+  pub walked-ran : (center : PointU) (degree : ℕ) {e : Width} {a b c d : ℕ}
       → Ran (findWidthAtDegree shape center degree) words m₀ e m₁
       → a ≡ toBits binary32 (e .left .x) → b ≡ toBits binary32 (e .left .y) → c ≡ toBits binary32 (e .right .x) → d ≡ toBits binary32 (e .right .y)
-      → Ran (through endsWords (findWidthAtDegree (shapeOf w h) center degree)) words m₀ (a ∷ b ∷ c ∷ d ∷ []) m₁
-  unfolding endsWords
-  walked-ran center degree ran ea eb ec ed = ran-through endsWords _ (rw is at ran) (rw (ea, eb, ec, ed) refl)
+      → Ran (through widthWords (findWidthAtDegree (shapeOf w h) center degree)) words m₀ (e .length ∷ a ∷ b ∷ c ∷ d ∷ []) m₁
+  unfolding widthWords
+  walked-ran center degree ran ea eb ec ed = ran-through widthWords _ (rw is at ran) (rw (ea, eb, ec, ed) refl)
 
-  pub boxed-ran : (fields : List ℕ) (circle : Circle) {r : List ℕ} → Ran (through (withSymbol fields) (symbolAt shape circle)) words m₀ r m₁
-      → Ran (through (withSymbol fields) (symbolAt (shapeOf w h) circle)) words m₀ r m₁
+  pub boxed-ran : (fields : List ℕ) (circle : Circle) {r : List ℕ} → Ran (through (withSymbol fields) (symbolAt false shape circle)) words m₀ r m₁
+      → Ran (through (withSymbol fields) (symbolAt false (shapeOf w h) circle)) words m₀ r m₁
   boxed-ran fields circle ran = rw is at ran

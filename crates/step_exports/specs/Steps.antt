@@ -17,7 +17,7 @@ use Rattle.detector_size.specs.declared.Size.{Size}
 use Rattle.detector_boundary.specs.declared.Boundary.{Boundary}
 use Rattle.detector_boundary.specs.Boundary.{scaledBoundary}
 use Rattle.detector_circle.specs.declared.Circle.{Circle}
-use Rattle.detector_walks.specs.declared.Ends.{Ends}
+use Rattle.detector_walks.specs.declared.Width.{Width}
 use Rattle.detector_kept.specs.declared.Spread.{Spread}
 
 -- A step that tests by itself whether its input fits: one that fits is answered, and for any other it is said what happens.
@@ -87,9 +87,9 @@ unfoldable pub pointWords : Point → List ℕ
 unfolding toBits
 pointWords p = toBits binary32 (p .x) ∷ toBits binary32 (p .y) ∷ []
 
-unfoldable pub endsWords : Ends → List ℕ
+unfoldable pub widthWords : Width → List ℕ
 unfolding toBits
-endsWords e = toBits binary32 (e .left .x) ∷ toBits binary32 (e .left .y) ∷ toBits binary32 (e .right .x) ∷ toBits binary32 (e .right .y) ∷ []
+widthWords w = w .length ∷ toBits binary32 (w .left .x) ∷ toBits binary32 (w .left .y) ∷ toBits binary32 (w .right .x) ∷ toBits binary32 (w .right .y) ∷ []
 
 -- 0 white, 1 black, 2 outside
 unfoldable pub sampleNumber : Sample → ℕ

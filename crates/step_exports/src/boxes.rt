@@ -3,6 +3,7 @@ use bit_matrix::Sample;
 use bit_matrix::Shape;
 use detector_circle::Circle;
 use rxing_result_point::PointU;
+ghost use mathlib.Core.Bool.{false};
 ghost use mathlib.Core.Path.{_≡_};
 ghost use Rattle.reads.specs.RunsClauses.{Ran};
 ghost use Rattle.bit_matrix.specs.ShapeClauses.{Image};
@@ -14,7 +15,7 @@ ghost use Rattle.detector_center.specs.Center.{corrected};
 ghost use Rattle.detector_turn.specs.ScalesClauses.{LentCircle};
 ghost use Rattle.detector_box.specs.Boxes.{symbolAt};
 ghost use Rattle.detector_symbol.specs.Symbols.{withSymbol};
-ghost use Rattle.step_exports.specs.Steps.{Guarded, refusedAnswer, numberIn, shapeIn, pixelIn, circleIn, through, sampleNumber, endsWords, pixelWords};
+ghost use Rattle.step_exports.specs.Steps.{Guarded, refusedAnswer, numberIn, shapeIn, pixelIn, circleIn, through, sampleNumber, widthWords, pixelWords};
 use crate::guards::REFUSED;
 use crate::guards::is_image;
 use crate::guards::is_lent;
@@ -47,18 +48,18 @@ pub extern "C" fn step_try_get_area(words: &[u64], marks: &mut [u64], numbers: &
     sample_number(sample)
 }
 
-// The ends of the walks to the left and to the right at a degree. The numbers: width, height, the centre's column and row.
+// The length of the walks to the left and to the right at a degree, and their ends. The numbers: width, height, the centre's column and row.
 #[no_mangle]
 pub extern "C" fn step_find_width_at_degree(
     words: &[u64],
     marks: &mut [u64],
     numbers: &[u32; 4],
     degree: u32,
-    out: &mut [u32; 4],
+    out: &mut [u32; 5],
 ) -> u32
     ensures { λ r. ⌜ Guarded
         (Lent (shapeIn (now (numbers .entry))) (now (words .entry)) (now (marks .entry)) (pixelIn (now (numbers .entry)) 2) sines)
-        ((r ≡ 0) × Ran (through endsWords (findWidthAtDegree (shapeIn (now (numbers .entry))) (pixelIn (now (numbers .entry)) 2) degree))
+        ((r ≡ 0) × Ran (through widthWords (findWidthAtDegree (shapeIn (now (numbers .entry))) (pixelIn (now (numbers .entry)) 2) degree))
         (now (words .entry)) (now (marks .entry)) (now (out .exit)) (now (marks .exit)))
         ((r ≡ refusedAnswer) × (now (marks .exit) ≡ now (marks .entry)) × (now (out .exit) ≡ now (out .entry))) ⌝ }
 {
@@ -71,10 +72,11 @@ pub extern "C" fn step_find_width_at_degree(
         return REFUSED;
     }
     let table = sines::table();
-    let ends = detector_walks::find_width_at_degree(words, marks, shape, center, &table, degree);
-    let left = ends.left;
-    let right = ends.right;
+    let width = detector_walks::find_width_at_degree(words, marks, shape, center, &table, degree);
+    let left = width.left;
+    let right = width.right;
     *out = [
+        width.length,
         ieee::bits_of_f32(left.x),
         ieee::bits_of_f32(left.y),
         ieee::bits_of_f32(right.x),
@@ -111,7 +113,7 @@ pub extern "C" fn step_corrected_center(
     0
 }
 
-// A symbol's words in a record, with the table made for it.
+// A symbol's words in a record, with the table made for it; the ellipse check is off.
 fn boxed(
     words: &[u64],
     marks: &mut [u64],
@@ -120,16 +122,16 @@ fn boxed(
     circle: Circle,
 ) -> [u32; 40]
     requires { ⌜ LentCircle shape (now words) (now marks) circle sines ⌝ }
-    ensures { λ r. ⌜ Ran (through (withSymbol fields) (symbolAt shape circle)) (now (words .entry)) (now (marks .entry)) r (now (marks .exit)) ⌝ }
+    ensures { λ r. ⌜ Ran (through (withSymbol fields) (symbolAt false shape circle)) (now (words .entry)) (now (marks .entry)) r (now (marks .exit)) ⌝ }
 {
     let table = sines::table();
-    let symbol = detector_box::box_symbol(words, marks, shape, circle, &table);
+    let symbol = detector_box::box_symbol(words, marks, shape, circle, &table, false);
     let mut out = fields;
     detector_symbol::symbol_fields(&mut out, symbol);
     out
 }
 
-// A symbol's words 26 to 39 in a record. The numbers: width, height, the centre's column and row, radius.
+// A symbol's words 26 to 39 in a record, with the ellipse check off. The numbers: width, height, the centre's column and row, radius.
 #[no_mangle]
 pub extern "C" fn step_box_symbol(
     words: &[u64],
@@ -139,7 +141,7 @@ pub extern "C" fn step_box_symbol(
 ) -> u32
     ensures { λ r. ⌜ Guarded
         (LentCircle (shapeIn (now (numbers .entry))) (now (words .entry)) (now (marks .entry)) (circleIn (now (numbers .entry)) 2) sines)
-        ((r ≡ 0) × Ran (through (withSymbol (now (fields .entry))) (symbolAt (shapeIn (now (numbers .entry))) (circleIn (now (numbers .entry)) 2)))
+        ((r ≡ 0) × Ran (through (withSymbol (now (fields .entry))) (symbolAt false (shapeIn (now (numbers .entry))) (circleIn (now (numbers .entry)) 2)))
         (now (words .entry)) (now (marks .entry)) (now (fields .exit)) (now (marks .exit)))
         ((r ≡ refusedAnswer) × (now (marks .exit) ≡ now (marks .entry)) × (now (fields .exit) ≡ now (fields .entry))) ⌝ }
 {

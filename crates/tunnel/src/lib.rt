@@ -1,4 +1,4 @@
-// What the Rust host calls. A slice crosses as its pointer and its length, a report as a C struct of four u32.
+// What the Rust host calls. A slice crosses as its pointer and its length, a report as a C struct of four u32, an option as a u32: 0 is off, any other on.
 ghost use mathlib.Core.Path.{_≡_};
 ghost use lib.ListN.{length};
 ghost use Rattle.crop.specs.Crop.{refusal, Unpacks};
@@ -7,6 +7,7 @@ ghost use Rattle.text_run.specs.RunText.{fittingText};
 ghost use Rattle.detector_cells.specs.Cells.{cellsRun};
 ghost use Rattle.cells.specs.Entries.{wordsCells, filedCells, fileCells};
 ghost use Rattle.detector.specs.Detector.{run, wordsRun, filed, fileRun};
+ghost use Rattle.tunnel.specs.Options.{isOn};
 use detector::Report;
 
 // The first of the numbers 1 to 5 that names what is wrong with a crop file, or 0.
@@ -25,7 +26,7 @@ pub extern "C" fn maxicode_unpack(file: &[u8], words: &mut [u64]) -> u32
     crop::unpack(file, words)
 }
 
-// The search of an image in words.
+// The search of an image in words, with the ellipse check on or off.
 #[no_mangle]
 pub extern "C" fn maxicode_search_words(
     words: &[u64],
@@ -33,25 +34,27 @@ pub extern "C" fn maxicode_search_words(
     height: u32,
     records: &mut [u32],
     marks: &mut [u64],
+    ellipse: u32,
 ) -> Report
     ensures { λ r. ⌜ run r (now (records .exit)) (now (marks .exit))
-        ≡ wordsRun (now (words .entry)) width height (now (records .entry)) (now (marks .entry)) ⌝ }
+        ≡ wordsRun (now (words .entry)) width height (now (records .entry)) (now (marks .entry)) (isOn ellipse) ⌝ }
 {
-    detector::search_words(words, width, height, records, marks)
+    detector::search_words(words, width, height, records, marks, ellipse != 0)
 }
 
-// The search of a crop file, with words to unpack it into.
+// The search of a crop file, with words to unpack it into and the ellipse check on or off.
 #[no_mangle]
 pub extern "C" fn maxicode_search_file(
     file: &[u8],
     words: &mut [u64],
     records: &mut [u32],
     marks: &mut [u64],
+    ellipse: u32,
 ) -> Report
     ensures { λ r. ⌜ filed (now (words .exit)) (run r (now (records .exit)) (now (marks .exit)))
-        ≡ fileRun (now (file .entry)) (now (words .entry)) (now (records .entry)) (now (marks .entry)) ⌝ }
+        ≡ fileRun (now (file .entry)) (now (words .entry)) (now (records .entry)) (now (marks .entry)) (isOn ellipse) ⌝ }
 {
-    detector::search_file(file, words, records, marks)
+    detector::search_file(file, words, records, marks, ellipse != 0)
 }
 
 // The cells of an image in words: 33 words, column c of a row at bit c. They are written only when the answer is 0.

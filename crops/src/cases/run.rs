@@ -12,10 +12,10 @@ pub struct Entries<'a> {
     /// The number that refuses a file, or 0.
     pub host: fn(&[u8]) -> u32,
     pub unpack: fn(&[u8], &mut [u64]) -> u32,
-    /// A file, words to unpack into, records, marks.
-    pub search_file: fn(&[u8], &mut [u64], &mut [u32], &mut [u64]) -> Report,
-    /// Words, width, height, records, marks.
-    pub search_words: fn(&[u64], u32, u32, &mut [u32], &mut [u64]) -> Report,
+    /// A file, words to unpack into, records, marks, and whether ellipses are told.
+    pub search_file: fn(&[u8], &mut [u64], &mut [u32], &mut [u64], bool) -> Report,
+    /// Words, width, height, records, marks, and whether ellipses are told.
+    pub search_words: fn(&[u64], u32, u32, &mut [u32], &mut [u64], bool) -> Report,
     /// A file, words to unpack into, cells.
     pub cells_file: fn(&[u8], &mut [u64], &mut [u32]) -> u32,
     /// Words, width, height, cells.
@@ -54,9 +54,9 @@ pub fn run(call: &Call, stock: &Stock, entries: &Entries) -> Result<Option<Seen>
     Ok(Some(seen))
 }
 
-/// A search with nothing lent but words, marks and records, and no option.
+/// A search with nothing lent but words, marks and records, by the entries for live crops.
 fn plain(search: &Search) -> bool {
-    !search.ellipse && !search.archive && search.counts.is_none() && search.page.is_none()
+    !search.archive && search.counts.is_none() && search.page.is_none()
 }
 
 fn lent_u64(length: usize) -> Vec<u64> {
@@ -107,13 +107,21 @@ fn searched(search: &Search, stock: &Stock, entries: &Entries) -> Result<Seen, S
     let report = match &search.image {
         Image::File { file, unpack } => {
             let (file, mut words) = (given(file, stock)?, lent_u64(*unpack));
-            let report = (entries.search_file)(&file, &mut words, &mut records, &mut marks);
+            let report =
+                (entries.search_file)(&file, &mut words, &mut records, &mut marks, search.ellipse);
             seen = seen.buffer(Key::Words, words.len(), hash_u64(&words));
             report
         }
         Image::Words(words) => {
             let (words, width, height) = given_words(words, stock)?;
-            (entries.search_words)(&words, width, height, &mut records, &mut marks)
+            (entries.search_words)(
+                &words,
+                width,
+                height,
+                &mut records,
+                &mut marks,
+                search.ellipse,
+            )
         }
     };
     Ok(seen

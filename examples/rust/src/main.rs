@@ -14,6 +14,9 @@ use std::{
 /// Records lent: a crop with more candidates is answered with 7.
 const RECORDS: usize = 16;
 
+/// Whether each kept record is checked for an ellipse; it takes longer.
+const ELLIPSE: bool = false;
+
 fn main() -> ExitCode {
     let names: Vec<PathBuf> = env::args_os().skip(1).map(PathBuf::from).collect();
     let [name] = names.as_slice() else {
@@ -43,7 +46,7 @@ fn search(name: &Path) -> Result<(), Box<dyn Error>> {
     let size = crops::words_of(&file);
     let (mut words, mut marks) = (vec![0; size], vec![0; size]);
     let mut records = vec![0; RECORDS * RECORD_WORDS];
-    let report = bullseye::search_file(&file, &mut words, &mut records, &mut marks);
+    let report = bullseye::search_file(&file, &mut words, &mut records, &mut marks, ELLIPSE);
     println!(
         "answer {}, found {}, kept {}, read {} bits",
         report.answer, report.found, report.kept, report.marked
@@ -57,8 +60,10 @@ fn search(name: &Path) -> Result<(), Box<dyn Error>> {
 
 fn print_record(record: &Record) {
     print!("centre {}, {} radius {}", record.x, record.y, record.radius);
-    if record.outcome == Outcome::Turned {
-        print!(" turned by {} degrees", record.rotation);
+    match record.outcome {
+        Outcome::Turned => print!(" turned by {} degrees", record.rotation),
+        Outcome::Ellipse => print!(" an ellipse"),
+        Outcome::NoTurn | Outcome::LostCentre => (),
     }
     println!(" class {}", record.class);
 }

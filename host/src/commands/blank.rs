@@ -1,6 +1,6 @@
 //! `bullseye blank`: crops with every pixel that was not read made white.
 use super::{
-    Command, Searched, files_help,
+    Command, Searched, ellipse_help, files_help,
     folder::{self, Changed},
 };
 use crate::{
@@ -8,7 +8,7 @@ use crate::{
     blanking::{Blanked, blanked},
     inputs::Inputs,
     kept::Kept,
-    output::{Problem, complain, deliver, of_file},
+    output::{Problem, complain, deliver, of_file, with_ellipse},
 };
 use std::{
     ffi::{OsStr, OsString},
@@ -20,8 +20,8 @@ pub const COMMAND: Command = Command {
     what: "crops with every pixel that the search did not read made white",
     help: concat!(
         "\
-Usage: bullseye blank FILE [-o CROP]
-       bullseye blank [--list | -0] FILE.. -o FOLDER
+Usage: bullseye blank [--ellipse] FILE [-o CROP]
+       bullseye blank [--ellipse] [--list | -0] FILE.. -o FOLDER
 
 Searches a crop, with room for 400 records, makes every pixel white that the search did not read, and searches again: both searches
 must agree in answer and counts, in every word of 400 records, and in the marks. Says how many pixels were kept, and how many rows
@@ -29,9 +29,10 @@ from side to side, but for 6 pixels at each: these still show what stood there, 
 Of one crop the blanked one is written, and standard error has a line that says whether the searches agree.
 Of several, or with a FOLDER that is there, each blanked crop is written to FOLDER, under the name that it has itself, or below the
 folder that was given; FOLDER is made where it is missing. Standard output has a line for each crop, then one with the total. A crop
-whose searches differ is not written.
+whose searches differ is not written. With --ellipse both searches have the check, and each line says so.
 
 ",
+        ellipse_help!(),
         files_help!(),
         "\
 A file that is refused or cannot be read is named on standard error, with the reason, and does not end the run.
@@ -46,44 +47,48 @@ Example: bullseye blank examples/*.crop -o blanked
 };
 
 fn run(args: &[OsString]) -> Result<bool, Problem> {
-    let arguments = Arguments::of(args, &[&MANY[..], &["-o"]].concat())?;
+    let arguments = Arguments::of(args, &[&MANY[..], &["-o", "--ellipse"]].concat())?;
+    let ellipse = arguments.ellipse;
     let inputs = Inputs::of(&arguments)?;
     let output = arguments.output.as_deref();
     match output {
-        Some(folder) if !inputs.single || Path::new(folder).is_dir() => many(&inputs, folder),
+        Some(folder) if !inputs.single || Path::new(folder).is_dir() => {
+            many(&inputs, folder, ellipse)
+        }
         None if !inputs.single => Err(Problem::Usage("several crops need -o FOLDER".into())),
-        _ => one(&arguments.files[0], output),
+        _ => one(&arguments.files[0], output, ellipse),
     }
 }
 
 /// Blanks one crop.
-fn one(path: &OsStr, output: Option<&OsStr>) -> Result<bool, Problem> {
-    let Searched { image, run } = Searched::of(path)?;
+fn one(path: &OsStr, output: Option<&OsStr>, ellipse: bool) -> Result<bool, Problem> {
+    let Searched { image, run } = Searched::of(path, ellipse)?;
     let done = blanked(image, &run)
         .map_err(|unknown| Problem::Failed(of_file(path, &unknown.to_string())))?;
     deliver(&done.file, output)?;
-    complain(&of_file(path, &done.words()));
+    complain(&of_file(path, &done.words(ellipse)));
     Ok(done.difference.is_none())
 }
 
 /// Blanks many crops into a folder.
-fn many(inputs: &Inputs, folder: &OsStr) -> Result<bool, Problem> {
+fn many(inputs: &Inputs, folder: &OsStr, ellipse: bool) -> Result<bool, Problem> {
     let change = |Searched { image, run }: Searched| {
         let done = blanked(image, &run)?;
         Ok(Changed {
             agrees: done.difference.is_none(),
-            words: done.words(),
+            words: done.words(ellipse),
             file: done.file,
             sums: done.whitened,
         })
     };
     let mut whitened = 0;
-    let total = folder::run(inputs, folder, change, |count: usize| whitened += count)?;
+    let add = |count: usize| whitened += count;
+    let total = folder::run(inputs, ellipse, folder, change, add)?;
     total.print(&format!("made {whitened} unread black pixels white"))
 }
 
 impl Blanked {
-    fn words(&self) -> String {
+    fn words(&self, ellipse: bool) -> String {
         let verdict = match &self.difference {
             None => "both searches agree in answer, counts, records and marks".into(),
             Some(what) => format!("the searches differ in {what}"),
@@ -96,8 +101,9 @@ impl Blanked {
         } = self.kept;
         format!(
             "made {} unread black pixels white; kept {pixels} of {of_pixels} pixels, \
-{rows} of {of_rows} rows from side to side; {verdict}",
-            self.whitened
+{rows} of {of_rows} rows from side to side; {verdict}{}",
+            self.whitened,
+            with_ellipse(ellipse)
         )
     }
 }

@@ -1,5 +1,5 @@
 //! `bullseye certify`: a blanked crop with its run and the theorems that make it the deleted crop's, in one text; or a redacted one.
-use super::{Command, Searched};
+use super::{Command, Searched, ellipse_help};
 use crate::{
     arguments::{self, Arguments},
     blanking::blanked,
@@ -18,9 +18,10 @@ use std::{
 pub const COMMAND: Command = Command {
     name: "certify",
     what: "a blanked crop with its run and what proves it, as a text; or a redacted one; or the check of either",
-    help: "\
-Usage: bullseye certify CROP [-o FILE]
-       bullseye certify --redacted [--least] CROP [-o FILE]
+    help: concat!(
+        "\
+Usage: bullseye certify [--ellipse] CROP [-o FILE]
+       bullseye certify [--ellipse] --redacted [--least] CROP [-o FILE]
        bullseye certify --check FILE
 
 Searches the crop, makes every pixel white that the search did not read, searches again, and writes a certificate when both agree: a
@@ -31,9 +32,12 @@ pixels gives this run, the deleted one among them.
 --redacted writes the certificate of the crop as `bullseye redact` (with --least, `redact --least`) makes it: that crop, its answer,
 counts and records. It is no theorem about the deleted crop, and says so: two runs of the proved search agree.
 
---check searches the certificate's crop again and says whether every line agrees. Of a certificate that another version wrote, lines
-that begin with # and the words of the answer are not compared.
+--check searches the certificate's crop again, as the certificate says with the ellipse check or without, and says whether every line
+agrees. Of a certificate that another version wrote, lines that begin with # and the words of the answer are not compared.
 
+",
+        ellipse_help!(),
+        "\
 CROP is a crop file, FILE a certificate; - is standard input.
 -o FILE  writes there instead of to standard output
 
@@ -41,19 +45,21 @@ Exit status: 0 written, or all agree; 1 the crop is refused, or a line or the tw
 written; 2 bad usage, or FILE is no certificate.
 
 Example: bullseye certify examples/parcel.crop -o parcel.txt
-",
+"
+    ),
     run,
 };
 
 fn run(args: &[OsString]) -> Result<bool, Problem> {
-    let (path, options) = arguments::one(args, &["-o", "--check", "--redacted", "--least"])?;
+    let takes = ["-o", "--check", "--redacted", "--least", "--ellipse"];
+    let (path, options) = arguments::one(args, &takes)?;
     let usage = |text: &str| Err(Problem::Usage(text.into()));
     match &options {
         Arguments { check: true, .. } if options.output.is_some() => {
             usage("--check writes no file for -o")
         }
-        Arguments { check: true, .. } if options.redacted || options.least => {
-            usage("--check reads the kind from FILE")
+        Arguments { check: true, .. } if options.redacted || options.least || options.ellipse => {
+            usage("--check reads from FILE how it was made")
         }
         Arguments { check: true, .. } => check(&path),
         _ if options.least && !options.redacted => usage("--least stands with --redacted"),
@@ -64,7 +70,7 @@ fn run(args: &[OsString]) -> Result<bool, Problem> {
 /// Blanks or redacts a crop and writes its certificate.
 fn write(path: &OsStr, options: &Arguments) -> Result<bool, Problem> {
     let name = one_line(&Path::new(path).display().to_string());
-    let crop = Searched::of(path)?;
+    let crop = Searched::of(path, options.ellipse)?;
     let text = match options.redacted {
         true => redacted(path, &name, &crop, options.extent())?,
         false => certificate(path, (PRODUCT, &name), crop)?,
@@ -94,7 +100,7 @@ fn redacted(path: &OsStr, name: &str, crop: &Searched, extent: Extent) -> Result
     let done = redaction(crop, extent).map_err(|unknown| failed(&unknown.to_string()))?;
     match done.difference {
         None => {
-            let Searched { image, run } = Searched::of_bytes(path, &done.file)?;
+            let Searched { image, run } = Searched::of_bytes(path, &done.file, crop.run.ellipse)?;
             let written = (PRODUCT, name);
             Ok(certificate::text(Kind::Redacted, written, &image, &run))
         }
@@ -115,10 +121,11 @@ fn check(path: &OsStr) -> Result<bool, Problem> {
         product,
         name,
         kind,
+        ellipse,
         file,
     } = certificate::parse(&bytes)
         .map_err(|reason| Problem::Trouble(of_file(path, &format!("no certificate: {reason}"))))?;
-    let searched = Searched::of_bytes(path, &file)?;
+    let searched = Searched::of_bytes(path, &file, ellipse)?;
     let written = (product.as_str(), name.as_str());
     let given = match kind {
         Kind::Blanked => certificate(path, written, searched)?,

@@ -22,7 +22,8 @@ Usage: bullseye compare OLD NEW
 
 Compares two tables of `bullseye table` (CSV), as two builds made them of the same crops: lists each crop that changed, and how; each that
 is in one table alone; then the numbers, and how many searched crops have no box in each table: empty (8), set aside (9), too many (7). In
-a table of version 0.1 answer 8 is set aside too: these go by what was found.
+a table of version 0.1 answer 8 is set aside too: these go by what was found. Where one of them was made with --ellipse and the other
+without, the first line says so: the check reads more, and changes the counts of most crops with a kept candidate.
 Crops are the same by their names; a name that stands twice is compared in order.
   answer        another answer, or read in one table alone
   counts        found, kept or marked
@@ -59,7 +60,7 @@ fn run(args: &[OsString]) -> Result<bool, Problem> {
 
 /// Compares the tables; true when nothing changed.
 fn compared(old: &OsStr, new: &OsStr) -> Result<bool, Problem> {
-    let mut old = Table::of(old)?;
+    let (mut old, was_ellipse) = Table::of(old)?;
     let mut counts = Counts {
         old: old.0.len(),
         missed: [old.missed(), Tally::default()],
@@ -67,7 +68,8 @@ fn compared(old: &OsStr, new: &OsStr) -> Result<bool, Problem> {
     };
     let mut output = Output::to(None)?;
     let mut entries = Vec::new();
-    table::read(new, |entry| entries.push(entry))?;
+    let is_ellipse = table::read(new, |entry| entries.push(entry))?;
+    output.write(settings(was_ellipse, is_ellipse).as_bytes())?;
     let mut places = HashMap::new();
     for Entry { name, seen } in entries {
         let place = next_place(&mut places, &name);
@@ -81,6 +83,15 @@ fn compared(old: &OsStr, new: &OsStr) -> Result<bool, Problem> {
     output.write(counts.tables().as_bytes())?;
     output.finish()?;
     Ok(counts.unchanged == counts.old && counts.added == 0)
+}
+
+/// A line that says which table alone was made with the ellipse check.
+fn settings(old: bool, new: bool) -> &'static str {
+    match (old, new) {
+        (true, false) => "The old table was made with --ellipse, the new one without.\n",
+        (false, true) => "The new table was made with --ellipse, the old one without.\n",
+        _ => "",
+    }
 }
 
 /// A line about a crop, if there is something to say.
@@ -105,14 +116,15 @@ fn next_place(places: &mut HashMap<OsString, usize>, name: &OsStr) -> usize {
 struct Table(HashMap<(OsString, usize), (usize, Result<Seen, String>)>);
 
 impl Table {
-    fn of(path: &OsStr) -> Result<Self, Problem> {
+    /// A table, and whether it was made with the ellipse check.
+    fn of(path: &OsStr) -> Result<(Self, bool), Problem> {
         let mut places = HashMap::new();
         let mut all = HashMap::new();
-        table::read(path, |entry| {
+        let ellipse = table::read(path, |entry| {
             let place = next_place(&mut places, &entry.name);
             all.insert((entry.name, place), (all.len(), entry.seen));
         })?;
-        Ok(Table(all))
+        Ok((Table(all), ellipse))
     }
 
     /// Its searched crops without a box.

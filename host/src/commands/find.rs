@@ -1,5 +1,5 @@
 //! `bullseye find`: the program's lines for each crop file.
-use super::{Command, files_help};
+use super::{Command, ellipse_help, files_help};
 use crate::{
     arguments::{Arguments, MANY},
     files::{self, Said},
@@ -15,17 +15,18 @@ pub const COMMAND: Command = Command {
     what: "the bull's-eyes of each crop file, in the program's lines",
     help: concat!(
         "\
-Usage: bullseye find [--list | -0] FILE..
+Usage: bullseye find [--ellipse] [--list | -0] FILE..
 
 Searches each crop file, with room for 400 records, and prints
   answer A found F kept K marked M
 and a line for each kept record, best first:
   X Y RADIUS OUTCOME SCALE ROTATION CLASS VARIANCE CORNERS
-X, Y and RADIUS are of the circle as found, in pixels. OUTCOME is 1 turned, 0 no turn, 2 lost centre. ROTATION is in degrees.
-VARIANCE and the eight CORNERS (left bottom, left top, right bottom, right top, x before y) are the bits of f32 in hex.
+X, Y and RADIUS are of the circle as found, in pixels. OUTCOME is 1 turned, 0 no turn, 2 lost centre, 3 ellipse. ROTATION is in
+degrees. VARIANCE and the eight CORNERS (left bottom, left top, right bottom, right top, x before y) are the bits of f32 in hex.
 With more than one file, or a folder or a list, a line `FILE:` comes before the lines of each.
 
 ",
+        ellipse_help!(),
         files_help!(),
         "\
 A file that is refused or cannot be read is named on standard error, with the reason, and does not end the run.
@@ -39,13 +40,16 @@ Example: bullseye find examples/parcel.crop
 };
 
 fn run(args: &[OsString]) -> Result<bool, Problem> {
-    let inputs = Inputs::of(&Arguments::of(args, &MANY)?)?;
-    files::say_each(&inputs, |input, file| lines(inputs.heading(input), file))
+    let arguments = Arguments::of(args, &[&MANY[..], &["--ellipse"]].concat())?;
+    let inputs = Inputs::of(&arguments)?;
+    files::say_each(&inputs, |input, file| {
+        lines(inputs.heading(input), file, arguments.ellipse)
+    })
 }
 
 /// The lines of one file, after its heading.
-fn lines(heading: Vec<u8>, file: &[u8]) -> Result<Said, Unknown> {
-    let run = run::search(file)?;
+fn lines(heading: Vec<u8>, file: &[u8], ellipse: bool) -> Result<Said, Unknown> {
+    let run = run::search(file, ellipse)?;
     let mut text = heading;
     text.extend(bullseye::lines(run.seen.report, &run.buffer));
     Ok(Said {

@@ -35,9 +35,11 @@ enum Made<T> {
     Unwritten(String),
 }
 
-/// Writes each changed crop into the folder, with a line for each; what is to be added up goes to `add`.
+/// Searches each crop, with the ellipse check or without, and writes it changed into the folder, with a line for each; what is to be added
+/// up goes to `add`.
 pub fn run<T: Send>(
     inputs: &Inputs,
+    ellipse: bool,
     folder: &OsStr,
     change: impl Fn(Searched) -> Result<Changed<T>, Unknown> + Sync,
     mut add: impl FnMut(T),
@@ -45,7 +47,10 @@ pub fn run<T: Send>(
     let places = places(inputs, Path::new(folder))?;
     fs::create_dir_all(folder).map_err(|error| failed(folder, &error))?;
     let mut total = Total::default();
-    let make = |input: &Input, file: &[u8]| make(file, &places[&input.below], &change);
+    let make = |input: &Input, file: &[u8]| {
+        let searched = Searched::of_file(file, ellipse)?;
+        make(searched, &places[&input.below], &change)
+    };
     let progress = Progress::over(inputs, Output::to(None)?);
     files::each(inputs, progress, make, |input, made, progress| {
         let (line, complaint) = total.add(made, &mut add);
@@ -78,13 +83,13 @@ fn places(inputs: &Inputs, folder: &Path) -> Result<HashMap<PathBuf, PathBuf>, P
     Ok(places)
 }
 
-/// Changes a file and writes it to its place where the searches agree.
+/// Changes a crop that was searched, unless it was refused, and writes it to its place where the searches agree.
 fn make<T>(
-    file: &[u8],
+    searched: Result<Searched, String>,
     place: &Path,
     change: &impl Fn(Searched) -> Result<Changed<T>, Unknown>,
 ) -> Result<Made<T>, Unknown> {
-    let changed = match Searched::of_file(file)? {
+    let changed = match searched {
         Ok(searched) => change(searched)?,
         Err(refusal) => return Ok(Made::Refused(refusal)),
     };
@@ -185,7 +190,8 @@ mod tests {
                 sums: (),
             })
         };
-        let made = make(&crop, &place, &change).expect("a known answer");
+        let searched = Searched::of_file(&crop, false).expect("a known answer");
+        let made = make(searched, &place, &change).expect("a known answer");
         let mut total = Total::default();
         total.add(Ok(made), &mut |()| ());
         (fs::remove_file(&place).is_ok(), total.agree, total.differ)

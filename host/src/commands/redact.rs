@@ -1,12 +1,12 @@
 //! `bullseye redact`: crops with less black that give the same result.
 use super::{
-    Command, Searched, files_help,
+    Command, Searched, ellipse_help, files_help,
     folder::{self, Changed},
 };
 use crate::{
     arguments::{Arguments, MANY},
     inputs::Inputs,
-    output::{Problem, complain, deliver, of_file, print},
+    output::{Problem, complain, deliver, of_file, print, with_ellipse},
     redacting::{Redaction, black_pixels, difference, redaction},
 };
 use bullseye::redact::{Extent, Redacted};
@@ -20,14 +20,15 @@ pub const COMMAND: Command = Command {
     what: "crops with as little black as was found to give the same result",
     help: concat!(
         "\
-Usage: bullseye redact [--least] FILE [-o CROP]
-       bullseye redact [--least] [--list | -0] FILE.. -o FOLDER
-       bullseye redact --check CROP REDACTED
+Usage: bullseye redact [--ellipse] [--least] FILE [-o CROP]
+       bullseye redact [--ellipse] [--least] [--list | -0] FILE.. -o FOLDER
+       bullseye redact [--ellipse] --check CROP REDACTED
 
 Searches a crop, with room for 400 records, and makes black pixels white for as long as a search gives the same answer, found, kept and
 record words; which pixels are read may change. Blocks are tried, largest first, and halved where the search no longer agrees. No
-white pixel becomes black. The rectangle about the box of each kept record is spared: there only what the search did not read is made
-white, so that the symbol can still be seen. A crop with W columns and H rows is searched at most 16 * (W + H) times.
+white pixel becomes black. The rectangle about the box of each kept record, of an ellipse that about its circle, is spared: there only
+what the search did not read is made white, so that the symbol can still be seen. A crop with W columns and H rows is searched at most
+16 * (W + H) times. With --ellipse all searches have the check, and each line says so; without it the result may be another.
 Last, the bytes that are to be written are searched and compared; where they disagree they are not written.
 Of one crop the redacted one is written, and standard error has a line with the black pixels before and after and the searches.
 Of several, or with a FOLDER that is there, each redacted crop is written to FOLDER, under the name that it has itself, or below the
@@ -35,8 +36,9 @@ folder that was given; FOLDER is made where it is missing. Standard output has a
 
 --least  spares nothing
 --check  whether REDACTED gives the result of CROP, and has no black pixel that CROP has white
-
 ",
+        ellipse_help!(),
+        "\n",
         files_help!(),
         "\
 A file that is refused or cannot be read is named on standard error, with the reason, and does not end the run.
@@ -51,41 +53,46 @@ Example: bullseye redact examples/*.crop -o redacted
 };
 
 fn run(args: &[OsString]) -> Result<bool, Problem> {
-    let takes = [&MANY[..], &["-o", "--least", "--check"]].concat();
+    let takes = [&MANY[..], &["-o", "--least", "--check", "--ellipse"]].concat();
     let arguments = Arguments::of(args, &takes)?;
     if arguments.check {
         return check(&arguments);
     }
-    let extent = arguments.extent();
+    let (extent, ellipse) = (arguments.extent(), arguments.ellipse);
     let inputs = Inputs::of(&arguments)?;
     let output = arguments.output.as_deref();
     match output {
         Some(folder) if !inputs.single || Path::new(folder).is_dir() => {
-            many(&inputs, folder, extent)
+            many(&inputs, folder, extent, ellipse)
         }
         None if !inputs.single => Err(Problem::Usage("several crops need -o FOLDER".into())),
-        _ => one(&arguments.files[0], output, extent),
+        _ => one(&arguments.files[0], output, extent, ellipse),
     }
 }
 
 /// Redacts one crop.
-fn one(path: &OsStr, output: Option<&OsStr>, extent: Extent) -> Result<bool, Problem> {
-    let redacted = redaction(&Searched::of(path)?, extent)
+fn one(
+    path: &OsStr,
+    output: Option<&OsStr>,
+    extent: Extent,
+    ellipse: bool,
+) -> Result<bool, Problem> {
+    let redacted = redaction(&Searched::of(path, ellipse)?, extent)
         .map_err(|unknown| Problem::Failed(of_file(path, &unknown.to_string())))?;
     if redacted.difference.is_none() {
         deliver(&redacted.file, output)?;
     }
-    complain(&of_file(path, &redacted.words()));
+    complain(&of_file(path, &redacted.words(ellipse)));
     Ok(redacted.difference.is_none())
 }
 
 /// Redacts many crops into a folder.
-fn many(inputs: &Inputs, folder: &OsStr, extent: Extent) -> Result<bool, Problem> {
+fn many(inputs: &Inputs, folder: &OsStr, extent: Extent, ellipse: bool) -> Result<bool, Problem> {
     let change = |crop: Searched| {
         let redacted = redaction(&crop, extent)?;
         Ok(Changed {
             agrees: redacted.difference.is_none(),
-            words: redacted.words(),
+            words: redacted.words(ellipse),
             file: redacted.file,
             sums: redacted.done,
         })
@@ -96,7 +103,7 @@ fn many(inputs: &Inputs, folder: &OsStr, extent: Extent) -> Result<bool, Problem
         after += done.black_after;
         searches += done.searches;
     };
-    let total = folder::run(inputs, folder, change, add)?;
+    let total = folder::run(inputs, ellipse, folder, change, add)?;
     total.print(&format!("black {before} to {after} in {searches} searches"))
 }
 
@@ -106,26 +113,28 @@ fn check(arguments: &Arguments) -> Result<bool, Problem> {
         return Err(Problem::Usage("--check takes CROP and REDACTED".into()));
     };
     if arguments.least || arguments.list || arguments.output.is_some() {
-        let alone = "--check stands without other options";
+        let alone = "--check stands without other options, but for --ellipse";
         return Err(Problem::Usage(alone.into()));
     }
-    let (before, after) = (Searched::of(crop)?, Searched::of(redacted)?);
+    let search = |path: &OsStr| Searched::of(path, arguments.ellipse);
+    let (before, after) = (search(crop)?, search(redacted)?);
     let difference = difference(&before, &after);
     let verdict = match &difference {
         None => "the same result and no other black".into(),
         Some(what) => format!("not the same: {what}"),
     };
     let black = format!(
-        "black {} to {}",
+        "black {} to {}{}",
         black_pixels(&before.image),
-        black_pixels(&after.image)
+        black_pixels(&after.image),
+        with_ellipse(arguments.ellipse)
     );
     print(format!("{}: {verdict}; {black}\n", Path::new(redacted).display()).as_bytes())?;
     Ok(difference.is_none())
 }
 
 impl Redaction {
-    fn words(&self) -> String {
+    fn words(&self, ellipse: bool) -> String {
         let Redacted {
             black_before,
             black_after,
@@ -138,6 +147,9 @@ impl Redaction {
             Some(what) => format!("not written, since it differs in {what}"),
         };
         let bound = if least { "" } else { ", the most for its size" };
-        format!("black {black_before} to {black_after} in {searches} searches{bound}; {verdict}")
+        let option = with_ellipse(ellipse);
+        format!(
+            "black {black_before} to {black_after} in {searches} searches{bound}; {verdict}{option}"
+        )
     }
 }

@@ -1,5 +1,5 @@
 //! `bullseye summary`: what is missed and what is found in many crop files.
-use super::{Command, files_help};
+use super::{Command, ellipse_help, files_help};
 use crate::{
     arguments::{Arguments, MANY},
     counts::Counts,
@@ -17,14 +17,14 @@ pub const COMMAND: Command = Command {
     what: "what is missed and what is found in many crop files, as tables",
     help: concat!(
         "\
-Usage: bullseye summary [--list | -0] FILE..
+Usage: bullseye summary [--ellipse] [--list | -0] FILE..
        bullseye summary --table TABLE..
 
-Searches each crop file, with room for 400 records, and prints tables. Each kept record of a crop is a box. A crop is counted by its
-first record, the best, which is its label; its other boxes are counted among boxes alone.
+Searches each crop file, with room for 400 records, and prints tables. Each kept record of a crop is a box, an ellipse too. A crop is
+counted by its first record, the best, which is its label; its other boxes are counted among boxes alone.
   Files           how many were searched, refused, and could not be read
-  Missed          both missed figures: searched crops without a box, by reason and in all; and without a turn (no turn, or lost
-                  centre), by crops whose first box has none, and by all boxes. The reasons:
+  Missed          both missed figures: searched crops without a box, by reason and in all; and without a turn (no turn, lost centre,
+                  or ellipse), by crops whose first box has none, and by all boxes. The reasons:
                   empty (8)      no candidate is found
                   set aside (9)  candidates are found, and none is kept
                   too many (7)   more candidates than 400
@@ -34,11 +34,13 @@ first record, the best, which is its label; its other boxes are counted among bo
   Class of boxes  all boxes by class and outcome; without a turn the class is 0
 
 ",
+        ellipse_help!(),
         files_help!(),
         "\
 A file that is refused or cannot be read is named on standard error, with the reason, and does not end the run.
 --table  TABLE.. are tables of `bullseye table` (CSV), - for standard input: the summary of the files in them. In a table of version
-         0.1 answer 8 is set aside too: Missed goes by what was found, Answer by the numbers
+         0.1 answer 8 is set aside too: Missed goes by what was found, Answer by the numbers. All tables were made with
+         --ellipse, or none of them
 
 Exit status: 0 all files were searched; 1 a file is refused or cannot be read; 2 bad usage, or a table that is none.
 
@@ -49,43 +51,51 @@ Example: bullseye summary examples/*.crop
 };
 
 fn run(args: &[OsString]) -> Result<bool, Problem> {
-    let arguments = Arguments::of(args, &[&MANY[..], &["--table"]].concat())?;
+    let arguments = Arguments::of(args, &[&MANY[..], &["--table", "--ellipse"]].concat())?;
     let mut counts = Counts::default();
     let good = match arguments.table {
         true => of_tables(&arguments, &mut counts)?,
-        false => of_files(&Inputs::of(&arguments)?, &mut counts)?,
+        false => of_files(&Inputs::of(&arguments)?, arguments.ellipse, &mut counts)?,
     };
     print(counts.tables().as_bytes())?;
     Ok(good)
 }
 
 /// Counts files; true when each was searched.
-fn of_files(inputs: &Inputs, counts: &mut Counts) -> Result<bool, Problem> {
+fn of_files(inputs: &Inputs, ellipse: bool, counts: &mut Counts) -> Result<bool, Problem> {
     let progress = Progress::over(inputs, Output::to(None)?);
-    files::search_each(inputs, progress, |_, seen, _| {
+    files::search_each(inputs, ellipse, progress, |_, seen, _| {
         counts.add(&seen);
         Ok(())
     })
 }
 
-/// Counts the files of tables; true when each was searched.
+/// Counts the files of tables, all made with one setting of the ellipse check; true when each was searched.
 fn of_tables(arguments: &Arguments, counts: &mut Counts) -> Result<bool, Problem> {
     if arguments.list {
         let both = "--table takes tables, no list of crops";
         return Err(Problem::Usage(both.into()));
     }
+    if arguments.ellipse {
+        let stated = "--ellipse is for crops: a table tells whether it was made with it";
+        return Err(Problem::Usage(stated.into()));
+    }
     if arguments.files.is_empty() {
         return Err(Problem::Usage("no table is named".into()));
     }
     let mut good = true;
+    let mut setting = None;
     for path in &arguments.files {
-        table::read(path, |entry| {
+        let ellipse = table::read(path, |entry| {
             if let Some(complaint) = complaint(&entry.seen) {
                 good = false;
                 complain(&of_file(&entry.name, &complaint));
             }
             counts.add(&entry.seen);
         })?;
+        if *setting.get_or_insert(ellipse) != ellipse {
+            return Err(Problem::Trouble(of_file(path, table::BOTH_SETTINGS)));
+        }
     }
     Ok(good)
 }

@@ -1,9 +1,10 @@
 //! `bullseye view`: a crop and what the search found in it, as a picture.
-use super::{Command, Searched};
+use super::{Command, Searched, ellipse_help};
 use crate::{
     arguments,
+    ellipse::Check,
     image::Image,
-    output::{Problem, deliver, of_file},
+    output::{Problem, deliver, of_file, with_ellipse},
     redacting::{black_pixels, redaction},
     run::Run,
     svg::{Bounds, FONT, escaped, runs},
@@ -15,17 +16,25 @@ use std::{
     path::Path,
 };
 
+mod checked;
+
 pub const COMMAND: Command = Command {
     name: "view",
     what: "a crop and what the search found in it, as a picture (SVG)",
-    help: "\
-Usage: bullseye view [--redacted [--least]] CROP [-o FILE]
+    help: concat!(
+        "\
+Usage: bullseye view [--ellipse] [--redacted [--least]] CROP [-o FILE]
 
 Searches the crop, with room for 400 records, and writes an SVG, which any browser shows: the pixels; in blue, those that the
 search read; for each kept record its circle, its box and its rank, green when turned, orange when there is no turn, red when the
 centre was lost; an arrow from the centre to the symbol's top; and below, a line for each record with outcome, degrees and class.
 A box is drawn as its record has it: where a turned corner would lie left of the crop or above it, the box is skewed.
+An ellipse has no box. In purple is drawn what the check saw: the end points of its walks, a dot where one passes and a cross where not,
+and the ellipse of the two halves with its half axes, all cut off where the crop ends.
 
+",
+        ellipse_help!(),
+        "\
 --redacted  shows the redacted crop (see redact), and in grey what was taken away, instead of what was read
 --least     the redaction spares nothing
 CROP is a crop file; - is standard input.
@@ -34,7 +43,8 @@ CROP is a crop file; - is standard input.
 Exit status: 0 written; 1 the crop is refused, or a file cannot be read or written; 2 bad usage.
 
 Example: bullseye view examples/parcel.crop -o parcel.svg
-",
+"
+    ),
     run,
 };
 
@@ -48,11 +58,12 @@ const RANK_STEP: f64 = 30.0;
 const ARROW_RADII: f64 = 2.0;
 
 fn run(args: &[OsString]) -> Result<bool, Problem> {
-    let (path, options) = arguments::one(args, &["-o", "--redacted", "--least"])?;
+    let takes = ["-o", "--redacted", "--least", "--ellipse"];
+    let (path, options) = arguments::one(args, &takes)?;
     if options.least && !options.redacted {
         return Err(Problem::Usage("--least is for --redacted".into()));
     }
-    let crop = Searched::of(&path)?;
+    let crop = Searched::of(&path, options.ellipse)?;
     let left = match options.redacted {
         false => None,
         true => Some(redacted(&path, &crop, options.extent())?),
@@ -81,15 +92,21 @@ fn picture(name: &str, Searched { image, run }: &Searched, left: Option<&Image>)
     let (pixels, words) = pixels(image, run, left);
     let mut legend = caption(name, image, run, &words);
     for (rank, record) in (1..).zip(&run.seen.records) {
-        let label = label(rank, record);
+        let ellipse = record.outcome == Outcome::Ellipse;
+        let check = ellipse.then(|| Check::of(image, (record.x, record.y)));
+        let label = label(rank, record, check.as_ref());
         include(
             &mut bounds,
             record,
             rank_place(rank, record, FONT / zoom),
             FONT / zoom,
         );
+        let shape = match &check {
+            None => polygon(record),
+            Some(check) => checked::drawn(rank, check, image, zoom),
+        };
         // The best stands last, and so on top.
-        records.insert_str(0, &drawn(rank, record, &label, zoom));
+        records.insert_str(0, &drawn(rank, record, &shape, &label, zoom));
         legend.push((colour(record.outcome), label));
     }
     let (width, height) = (image.width, image.height);
@@ -152,22 +169,29 @@ fn colour(outcome: Outcome) -> &'static str {
         Outcome::Turned => "#008a3c",
         Outcome::NoTurn => "#b35900",
         Outcome::LostCentre => "#d0021b",
+        Outcome::Ellipse => "#c026d3",
     }
 }
 
-/// Rank, outcome with its degrees, and class; then where it is.
-fn label(rank: usize, record: &Record) -> String {
+/// Rank, outcome with its degrees, and class; then where it is, and what the check of an ellipse saw.
+fn label(rank: usize, record: &Record, check: Option<&Check>) -> String {
     let degrees = match record.outcome {
         Outcome::Turned => format!(" {}°", record.rotation),
         _ => String::new(),
     };
+    let seen = check.map(|check| {
+        let (longest, shortest) = (check.longest, check.shortest);
+        let (passing, all) = (check.passing(), check.ends.len());
+        format!("; halves {longest} and {shortest}, {passing} of {all} end points pass")
+    });
     format!(
-        "{rank}: {}{degrees}, class {}; centre {} {}, radius {}",
+        "{rank}: {}{degrees}, class {}; centre {} {}, radius {}{}",
         record.outcome.words(),
         record.class,
         record.x,
         record.y,
-        record.radius
+        record.radius,
+        seen.unwrap_or_default()
     )
 }
 
@@ -179,20 +203,28 @@ fn caption(name: &str, image: &Image, run: &Run, words: &str) -> Vec<(&'static s
         run.seen.answer.number, run.seen.answer.meaning
     );
     let counts = format!(
-        "found {}, kept {}, marked {} ({words})",
-        report.found, report.kept, report.marked
+        "found {}, kept {}, marked {} ({words}){}",
+        report.found,
+        report.kept,
+        report.marked,
+        with_ellipse(run.ellipse)
     );
     let size = format!("{name}: {} by {} pixels", image.width, image.height);
     [size, answer, counts].map(|line| ("#000", line)).into()
 }
 
-/// A record's circle, box, turn and rank; its points are in the middle of their pixels.
-fn drawn(rank: usize, record: &Record, label: &str, zoom: f64) -> String {
+/// A record's box.
+fn polygon(record: &Record) -> String {
     let [left_bottom, left_top, right_bottom, right_top] = record.corners;
     let corners: Vec<String> = [left_bottom, left_top, right_top, right_bottom]
         .iter()
         .map(|corner| format!("{:.2},{:.2}", corner.x, corner.y))
         .collect();
+    format!("<polygon points=\"{}\"/>\n", corners.join(" "))
+}
+
+/// A record's circle, its box or what stands for it, turn and rank; its points are in the middle of their pixels.
+fn drawn(rank: usize, record: &Record, shape: &str, label: &str, zoom: f64) -> String {
     let Record { x, y, radius, .. } = *record;
     let (stroke, font, halo) = (2.0 / zoom, FONT / zoom, 4.0 / zoom);
     let colour = colour(record.outcome);
@@ -200,11 +232,9 @@ fn drawn(rank: usize, record: &Record, label: &str, zoom: f64) -> String {
     format!(
         "<g class=\"record\" transform=\"translate(0.5 0.5)\" fill=\"none\" stroke=\"{colour}\" stroke-width=\"{stroke:.3}\">\
 <title>{label}</title>\n\
-<circle cx=\"{x}\" cy=\"{y}\" r=\"{radius}\"/>\n\
-<polygon points=\"{}\"/>\n{}\
+<circle cx=\"{x}\" cy=\"{y}\" r=\"{radius}\"/>\n{shape}{}\
 <text x=\"{rank_x:.2}\" y=\"{rank_y:.2}\" text-anchor=\"middle\" font-weight=\"bold\" fill=\"{colour}\" stroke=\"#fff\" \
 stroke-width=\"{halo:.3}\" paint-order=\"stroke\">{rank}</text>\n</g>\n",
-        corners.join(" "),
         centre(record),
     )
 }
@@ -236,12 +266,12 @@ fn centre(record: &Record) -> String {
                 "<line x1=\"{x}\" y1=\"{y}\" x2=\"{tip_x:.2}\" y2=\"{tip_y:.2}\" marker-end=\"url(#arrow)\"/>\n"
             )
         }
-        Outcome::NoTurn => String::new(),
+        Outcome::NoTurn | Outcome::Ellipse => String::new(),
         Outcome::LostCentre => format!("<path d=\"M{x} {y}m-2 -2l4 4m0 -4l-4 4\"/>\n"),
     }
 }
 
-/// Makes room for a record's circle, box and arrow, and for its rank of this font at its place.
+/// Makes room for a record's circle, box and arrow, and for its rank of this font at its place; an ellipse has no box.
 fn include(bounds: &mut Bounds, record: &Record, (rank_x, rank_y): (f64, f64), font: f64) {
     bounds.reach(rank_x - font, rank_y - font);
     bounds.reach(rank_x + font, rank_y);
@@ -249,8 +279,10 @@ fn include(bounds: &mut Bounds, record: &Record, (rank_x, rank_y): (f64, f64), f
     let radius = f64::from(record.radius);
     bounds.reach(x - radius, y - radius);
     bounds.reach(x + radius, y + radius);
-    for corner in record.corners {
-        bounds.reach(f64::from(corner.x), f64::from(corner.y));
+    if record.outcome != Outcome::Ellipse {
+        for corner in record.corners {
+            bounds.reach(f64::from(corner.x), f64::from(corner.y));
+        }
     }
     if record.outcome == Outcome::Turned {
         let (x, y) = tip(record);

@@ -1,5 +1,9 @@
 //! Blocks of pixels, and the words that they cover.
-use crops::{WORD_BITS, places::CORNERS, row_words};
+use crops::{
+    Outcome, WORD_BITS,
+    places::{CENTER_X, CENTER_Y, CORNERS, OUTCOME, RADIUS},
+    row_words,
+};
 
 /// The pixels from column `left` and row `top` to before `right` and `bottom`.
 #[derive(Clone, Copy, Debug, PartialEq, Eq)]
@@ -43,13 +47,18 @@ impl Block {
         }
     }
 
-    /// The rectangle about a record's box, cut to the image.
+    /// The rectangle about a record's box, or about the circle of an ellipse, which has no box; cut to the image.
     pub fn about(record: &[u32], width: u32, height: u32) -> Self {
-        let corners = || record[CORNERS..].chunks_exact(2).take(4);
-        let xs = corners().map(|corner| f32::from_bits(corner[0]));
-        let ys = corners().map(|corner| f32::from_bits(corner[1]));
-        let (left, right) = between(xs, width);
-        let (top, bottom) = between(ys, height);
+        let corner = |number: usize| {
+            let corner = CORNERS + 2 * number;
+            [record[corner], record[corner + 1]].map(f32::from_bits)
+        };
+        let corners = match record[OUTCOME] == Outcome::Ellipse.number() {
+            true => about_circle(record),
+            false => [0, 1, 2, 3].map(corner),
+        };
+        let (left, right) = between(corners.map(|[x, _]| x), width);
+        let (top, bottom) = between(corners.map(|[_, y]| y), height);
         Block {
             left,
             top,
@@ -91,11 +100,20 @@ impl Block {
     }
 }
 
+/// The corners of the square about a record's circle.
+fn about_circle(record: &[u32]) -> [[f32; 2]; 4] {
+    let [x, y, radius] = [CENTER_X, CENTER_Y, RADIUS].map(|place| record[place] as f32);
+    let signs = [[-1.0, -1.0], [-1.0, 1.0], [1.0, -1.0], [1.0, 1.0]];
+    signs.map(|[across, down]| [x + across * radius, y + down * radius])
+}
+
 /// The pixels from the least to the greatest coordinate, within a side.
-fn between(coordinates: impl Iterator<Item = f32>, side: u32) -> (u32, u32) {
-    let ends = coordinates.fold((f32::MAX, 0.0f32), |(least, most), at| {
-        (least.min(at), most.max(at))
-    });
+fn between(coordinates: [f32; 4], side: u32) -> (u32, u32) {
+    let ends = coordinates
+        .into_iter()
+        .fold((f32::MAX, 0.0f32), |(least, most), at| {
+            (least.min(at), most.max(at))
+        });
     let last = side - 1;
     let (from, to) = (ends.0.floor() as u32, ends.1.ceil() as u32);
     (from.min(last), to.min(last) + 1)
@@ -150,5 +168,16 @@ mod tests {
         let block = Block::about(&record, 100, 80);
         assert_eq!((block.left, block.right), (7, 100));
         assert_eq!((block.top, block.bottom), (0, 41));
+    }
+
+    /// An ellipse's corners are zeros: the square about its circle is taken instead.
+    #[test]
+    fn the_rectangle_about_an_ellipse_is_that_of_its_circle() {
+        let mut record = [0; crops::RECORD_WORDS];
+        record[..3].copy_from_slice(&[12, 70, 20]);
+        record[OUTCOME] = Outcome::Ellipse.number();
+        let block = Block::about(&record, 100, 80);
+        assert_eq!((block.left, block.right), (0, 33));
+        assert_eq!((block.top, block.bottom), (50, 80));
     }
 }

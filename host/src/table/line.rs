@@ -1,5 +1,5 @@
 //! A line of a table, by its columns.
-use super::{COLUMNS, FIELDS, RECORD};
+use super::{COLUMNS, ELLIPSE, FIELDS, RECORD};
 use crops::{Outcome, Point, Record, Report, class_of_word};
 use std::str::FromStr;
 
@@ -13,8 +13,11 @@ pub struct Line {
 }
 
 impl Line {
-    /// The line of its fields, or in words what is wrong with it.
-    pub fn of(fields: Vec<Vec<u8>>) -> Result<Self, String> {
+    /// The line of its fields, in a table made with the ellipse check or without, or in words what is wrong with it.
+    pub fn of(mut fields: Vec<Vec<u8>>, ellipse: bool) -> Result<Self, String> {
+        if ellipse && fields.pop().as_deref() != Some(b"1") {
+            return Err(format!("{ELLIPSE} is not 1"));
+        }
         if fields.len() != COLUMNS.len() {
             let (columns, all) = (fields.len(), COLUMNS.len());
             return Err(format!("{columns} columns instead of {all}"));
@@ -31,32 +34,36 @@ impl Line {
                 false => Err("a problem stands beside an answer".into()),
             };
         }
-        let report = Report {
-            answer: number(&fields, 1)?,
-            found: number(&fields, 2)?,
-            kept: number(&fields, 3)?,
-            marked: number(&fields, 4)?,
-        };
-        if !is_possible(&report) {
-            let Report {
-                answer,
-                found,
-                kept,
-                ..
-            } = report;
-            return Err(format!(
-                "answer {answer} does not go with found {found} and kept {kept}"
-            ));
-        }
+        let report = report(&fields)?;
         let record = match fields[RECORD..].iter().all(Vec::is_empty) {
             true => None,
             false => Some((number(&fields, RECORD)?, record(&fields)?)),
         };
+        if !ellipse && record.is_some_and(|(_, record)| record.outcome == Outcome::Ellipse) {
+            return Err("an ellipse in a table made without --ellipse".into());
+        }
         let name = fields.into_iter().next().unwrap_or_default();
         Ok(Line {
             name,
             seen: Ok((report, record)),
         })
+    }
+}
+
+/// The report that stands in a line's columns.
+fn report(fields: &[Vec<u8>]) -> Result<Report, String> {
+    let report = Report {
+        answer: number(fields, 1)?,
+        found: number(fields, 2)?,
+        kept: number(fields, 3)?,
+        marked: number(fields, 4)?,
+    };
+    match is_possible(&report) {
+        true => Ok(report),
+        false => Err(format!(
+            "answer {} does not go with found {} and kept {}",
+            report.answer, report.found, report.kept
+        )),
     }
 }
 

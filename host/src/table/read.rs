@@ -1,5 +1,5 @@
 //! A table, read back file by file.
-use super::{COLUMNS, Entry, line::Line};
+use super::{BOTH_SETTINGS, COLUMNS, ELLIPSE, Entry, line::Line};
 use crate::{
     csv::{Error, Reader},
     output::{Problem, of_file, reason},
@@ -13,8 +13,9 @@ use std::{
     os::unix::ffi::OsStringExt,
 };
 
-/// Reads a table and hands each file's entry on; what is not the whole of a table is an error.
-pub fn read(path: &OsStr, take: impl FnMut(Entry)) -> Result<(), Problem> {
+/// Reads a table and hands each file's entry on; what is not the whole of a table is an error. True when it was made with the ellipse
+/// check.
+pub fn read(path: &OsStr, take: impl FnMut(Entry)) -> Result<bool, Problem> {
     let system = |error: &io::Error| Problem::Trouble(of_file(path, &reason(error)));
     let from: Box<dyn BufRead> = match path == "-" {
         true => Box::new(io::stdin().lock()),
@@ -49,19 +50,21 @@ impl From<Error> for Wrong {
     }
 }
 
-/// All entries; a header may stand again where tables were joined.
-fn entries(reader: &mut Reader<impl BufRead>, mut take: impl FnMut(Entry)) -> Result<(), Wrong> {
-    let mut first = true;
+/// All entries, and whether the ellipse check was on; a header may stand again where tables were joined.
+fn entries(reader: &mut Reader<impl BufRead>, mut take: impl FnMut(Entry)) -> Result<bool, Wrong> {
+    let mut setting = None;
     let mut open: Option<Open> = None;
     while let Some(fields) = reader.next()? {
-        let is_header = fields == COLUMNS.map(str::as_bytes);
-        if std::mem::take(&mut first) && !is_header {
-            return Err(Wrong::Whole(other_columns(&fields)));
-        }
-        if is_header && open.is_none() {
+        if open.is_none()
+            && let Some(ellipse) = header_setting(&fields)
+        {
+            if *setting.get_or_insert(ellipse) != ellipse {
+                return Err(Wrong::Line(BOTH_SETTINGS.into()));
+            }
             continue;
         }
-        let line = Line::of(fields).map_err(Wrong::Line)?;
+        let ellipse = setting.ok_or_else(|| Wrong::Whole(other_columns(&fields)))?;
+        let line = Line::of(fields, ellipse).map_err(Wrong::Line)?;
         open = match open {
             None => Open::of(line),
             Some(open) => open.with(line),
@@ -69,10 +72,21 @@ fn entries(reader: &mut Reader<impl BufRead>, mut take: impl FnMut(Entry)) -> Re
         .map_err(Wrong::Line)?
         .closed(&mut take);
     }
-    match (first, open) {
-        (true, _) => Err(Wrong::Whole("an empty file, no table".into())),
-        (false, Some(open)) => Err(Wrong::Whole(format!("it ends before {}", open.next()))),
-        (false, None) => Ok(()),
+    match (setting, open) {
+        (None, _) => Err(Wrong::Whole("an empty file, no table".into())),
+        (_, Some(open)) => Err(Wrong::Whole(format!("it ends before {}", open.next()))),
+        (Some(ellipse), None) => Ok(ellipse),
+    }
+}
+
+/// Whether the table of a header was made with the ellipse check; none for a line that is no header.
+fn header_setting(fields: &[Vec<u8>]) -> Option<bool> {
+    let (first, rest) = fields.split_at_checked(COLUMNS.len())?;
+    match rest {
+        _ if first != COLUMNS.map(str::as_bytes) => None,
+        [] => Some(false),
+        [last] if last == ELLIPSE.as_bytes() => Some(true),
+        _ => None,
     }
 }
 

@@ -1,12 +1,14 @@
 //! A run's lines, cell by cell, and as CSV.
-use super::{COLUMNS, FIELDS, RECORD};
+use super::{COLUMNS, ELLIPSE, FIELDS, RECORD};
 use crate::{csv, run::Seen};
 use crops::{Record, Report};
 use std::ffi::OsStr;
 
-/// The header line of a CSV table.
-pub fn header() -> Vec<u8> {
-    (COLUMNS.join(",") + "\n").into_bytes()
+/// The header line of a CSV table, made with the ellipse check or without.
+pub fn header(ellipse: bool) -> Vec<u8> {
+    let mut columns = COLUMNS.to_vec();
+    columns.extend(ellipse.then_some(ELLIPSE));
+    (columns.join(",") + "\n").into_bytes()
 }
 
 /// A cell of a line.
@@ -16,8 +18,17 @@ pub enum Cell {
     Text(Vec<u8>),
 }
 
-/// The lines of a file: one for each record, or one without.
-pub fn rows(name: &OsStr, seen: &Result<Seen, String>) -> Vec<Vec<Cell>> {
+/// The lines of a file, searched with the ellipse check or without: one for each record, or one without.
+pub fn rows(name: &OsStr, seen: &Result<Seen, String>, ellipse: bool) -> Vec<Vec<Cell>> {
+    let mut rows = plain_rows(name, seen);
+    for row in &mut rows {
+        row.extend(ellipse.then(|| Cell::Number("1".into())));
+    }
+    rows
+}
+
+/// The same, up to the problem.
+fn plain_rows(name: &OsStr, seen: &Result<Seen, String>) -> Vec<Vec<Cell>> {
     let name = || Cell::Text(name.as_encoded_bytes().to_vec());
     let empty = |count: usize| (0..count).map(|_| Cell::Empty);
     let seen = match seen {

@@ -10,11 +10,13 @@ use std::{
 /// Every byte of a lent buffer before a call.
 const PATTERN: u8 = 0xa5;
 
-/// A call: a file, the dimensions that its words are handed over with, and the lengths of words, records, marks and cells.
+/// A call: a file, the dimensions that its words are handed over with, the lengths of words, records, marks and cells, and what asks for
+/// the ellipse check.
 struct Call {
     file: Vec<u8>,
     sides: (u32, u32),
     lengths: [usize; 4],
+    ellipse: u32,
 }
 
 /// Each file with buffers that fit, and with one of them too short or too long.
@@ -38,13 +40,17 @@ fn calls() -> Vec<Call> {
             [words, 39, words, 32],
             [words, records, words.saturating_sub(1), 34],
         ];
-        for lengths in [[words, records, words, 33], unfit[turn % 3]] {
+        let fit = [words, records, words, 33];
+        // Any number but 0 asks for the check.
+        let on = [1, 2, 1 << 31, u32::MAX][turn % 4];
+        for (lengths, ellipse) in [(fit, 0), (fit, on), (unfit[turn % 3], on)] {
             let sides = (width, height);
             let file = file.clone();
             calls.push(Call {
                 file,
                 sides,
                 lengths,
+                ellipse,
             });
         }
     }
@@ -90,13 +96,14 @@ impl Call {
         all.extend(bytes(&image, u64::to_ne_bytes));
         let (mut found, mut read) = (lent_small(records), lent(marks));
         let (width, height) = self.sides;
-        let report = bullseye::search_words(&image, width, height, &mut found, &mut read);
+        let ellipse = self.ellipse != 0;
+        let report = bullseye::search_words(&image, width, height, &mut found, &mut read, ellipse);
         all.extend(seen(report, &image, &found, &read));
         let mut taken = lent_small(cells);
         let answer = bullseye::cells_words(&image, width, height, &mut taken);
         all.extend(seen_cells(answer, &image, &taken));
         let (mut image, mut found, mut read) = (lent(words), lent_small(records), lent(marks));
-        let report = bullseye::search_file(&self.file, &mut image, &mut found, &mut read);
+        let report = bullseye::search_file(&self.file, &mut image, &mut found, &mut read, ellipse);
         all.extend(seen(report, &image, &found, &read));
         let (mut image, mut taken) = (lent(words), lent_small(cells));
         let answer = bullseye::cells_file(&self.file, &mut image, &mut taken);
@@ -126,8 +133,8 @@ fn refusals() -> Vec<u8> {
 
 /// What is seen of calls with nothing lent.
 fn nothing_lent() -> Vec<u8> {
-    let words = bullseye::search_words(&[], 33, 33, &mut [], &mut []);
-    let file = bullseye::search_file(&[], &mut [], &mut [], &mut []);
+    let words = bullseye::search_words(&[], 33, 33, &mut [], &mut [], false);
+    let file = bullseye::search_file(&[], &mut [], &mut [], &mut [], true);
     let numbers = [bullseye::check(&[]), bullseye::unpack(&[], &mut [])];
     let cells = [
         bullseye::cells_words(&[], 33, 33, &mut []),
@@ -171,8 +178,9 @@ fn c_and_cpp_see_what_rust_sees() {
         fs::write(&path, &call.file).expect("a file is written");
         let ((width, height), [words, records, marks, cells]) = (call.sides, call.lengths);
         lines += &format!(
-            "{} {width} {height} {words} {records} {marks} {cells}\n",
-            path.display()
+            "{} {width} {height} {words} {records} {marks} {cells} {}\n",
+            path.display(),
+            call.ellipse
         );
         expected.extend(call.by_rust());
     }

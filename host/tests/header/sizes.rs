@@ -55,7 +55,8 @@ fn a_damaged_file_or_buffer_is_refused() {
     let least = header["RECORD_WORDS"].number;
     for (records, answer) in [(least, named("NONE_FOUND")), (least - 1, named("BUFFER"))] {
         let (mut words, mut marks) = (vec![0; 33], vec![0; 33]);
-        let report = bullseye::search_file(&good, &mut words, &mut vec![0; records], &mut marks);
+        let mut records = vec![0; records];
+        let report = bullseye::search_file(&good, &mut words, &mut records, &mut marks, false);
         assert_eq!(report.answer, answer);
     }
 }
@@ -70,7 +71,8 @@ fn candidates_are_held_up_to_the_most() {
     let header = header();
     let most = header["MOST_CANDIDATES"].number;
     let mut records = vec![0; header["RECORD_WORDS"].number * (most + 9)];
-    let report = bullseye::search_words(&words, 128, 1000, &mut records, &mut vec![0; words.len()]);
+    let mut marks = vec![0; words.len()];
+    let report = bullseye::search_words(&words, 128, 1000, &mut records, &mut marks, false);
     assert_eq!(report.answer, named("TOO_MANY"));
     assert_eq!(report.found as usize, most + 1);
 }

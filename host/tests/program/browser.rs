@@ -58,9 +58,9 @@ fn looked_at(browser: &Path, folder: &Folder, pictures: &[String]) -> Vec<String
 }
 
 /// What the script should say: each pixel's kind, by the judge's marks.
-fn expected(file: &[u8]) -> String {
+fn expected(file: &[u8], ellipse: bool) -> String {
     let (width, height, black) = pixels(file);
-    let (_, _, marks) = judged(file);
+    let (_, _, marks) = judged_with(file, ellipse);
     let row = width.div_ceil(64);
     let read = |i: usize| marks[i / width * row + i % width / 64] >> (i % width % 64) & 1 != 0;
     let kinds = (0..width * height).map(|i| match (read(i), black[i]) {
@@ -70,6 +70,24 @@ fn expected(file: &[u8]) -> String {
         (true, true) => '3',
     });
     format!("whole {}", kinds.collect::<String>())
+}
+
+/// Whether a crop of this name is searched with the ellipse check.
+fn is_checked(name: &str) -> bool {
+    name == "ellipse"
+}
+
+/// The picture of a crop.
+fn picture(folder: &Folder, name: &str, file: &[u8]) -> String {
+    folder.write(name, file);
+    let option: &[&str] = if is_checked(name) {
+        &["--ellipse"]
+    } else {
+        &[]
+    };
+    folder
+        .bullseye(&[&["view"], option, &[name]].concat())
+        .text()
 }
 
 /// Each picture is one that the browser takes; all of it can be seen, and each pixel has the colour that it should have.
@@ -92,18 +110,16 @@ fn pictures_in_a_browser() {
         ("painted", generated("painted", 5)),
         ("narrow", generated("sizes", 3)),
         ("crowded", crowded()),
+        ("ellipse", ellipse()),
     ];
     let pictures: Vec<String> = files
         .iter()
-        .map(|(name, file)| {
-            folder.write(name, file);
-            folder.bullseye(&["view", name]).text()
-        })
+        .map(|(name, file)| picture(&folder, name, file))
         .collect();
     let said = looked_at(&browser, &folder, &pictures);
     assert_eq!(said.len(), files.len());
     for ((name, file), said) in files.iter().zip(said) {
-        let expected = expected(file);
+        let expected = expected(file, is_checked(name));
         let first = said.bytes().zip(expected.bytes()).position(|(a, b)| a != b);
         let from = first.unwrap_or(0);
         let [said_there, expected_there] =

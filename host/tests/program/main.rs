@@ -16,6 +16,7 @@ mod certify;
 mod check;
 mod compare;
 mod crop;
+mod ellipse;
 mod ends;
 mod find;
 mod many;
@@ -137,6 +138,11 @@ fn set_aside() -> Vec<u8> {
     example("set-aside.crop")
 }
 
+/// A stretched bull's-eye, which is an ellipse where it is checked.
+fn ellipse() -> Vec<u8> {
+    example("ellipse.crop")
+}
+
 /// A file of a generated image.
 fn generated(family: &str, seed: u64) -> Vec<u8> {
     oracle::generate::family(family, seed).file()
@@ -151,15 +157,33 @@ fn of_each_family(seeds: u64) -> Vec<(String, Vec<u8>)> {
         .collect()
 }
 
-/// What the judge finds: its report, all words of 400 records, and its marks.
-fn judged(file: &[u8]) -> (oracle::Report, Vec<u32>, Vec<u64>) {
+/// The files of some images for the ellipse check.
+fn for_ellipses(seeds: u64) -> Vec<(String, Vec<u8>)> {
+    let file = |seed: u64| oracle::generate::ellipse(seed).file();
+    (0..seeds)
+        .map(|seed| (format!("ellipse-{seed}.crop"), file(seed)))
+        .collect()
+}
+
+/// What a search leaves: its report, all words of 400 records, and its marks.
+type Left = (oracle::Report, Vec<u32>, Vec<u64>);
+
+/// What the judge's search leaves, without the ellipse check.
+fn judged(file: &[u8]) -> Left {
+    judged_with(file, false)
+}
+
+/// The same with the ellipse check or without.
+fn judged_with(file: &[u8], ellipse: bool) -> Left {
     let words = match oracle::crop::check_file(file) {
         0 => crops::dimensions(file).map_or(0, |(w, h)| crops::image_words(w, h)),
         _ => 0,
     };
     let mut records = vec![0; 400 * crops::RECORD_WORDS];
     let mut marks = vec![0; words];
-    let report = oracle::second::search_file(file, &mut vec![0; words], &mut records, &mut marks);
+    let mut image = vec![0; words];
+    let search = oracle::second::search_file;
+    let report = search(file, &mut image, &mut records, &mut marks, ellipse);
     (report, records, marks)
 }
 

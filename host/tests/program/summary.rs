@@ -53,8 +53,8 @@ fn a_few_files() {
     assert_eq!(cells(&text, "Outcome", "1 turned"), ["1", "1"]);
     assert_eq!(cells(&text, "Outcome", "2 lost centre"), ["1", "1"]);
     for title in ["Class of crops", "Class of boxes"] {
-        assert_eq!(cells(&text, title, "0"), ["0", "0", "1", "1"]);
-        assert_eq!(cells(&text, title, "2"), ["1", "0", "0", "1"]);
+        assert_eq!(cells(&text, title, "0"), ["0", "0", "1", "0", "1"]);
+        assert_eq!(cells(&text, title, "2"), ["1", "0", "0", "0", "1"]);
     }
     let complaints = "\
 bullseye: long: refused: 4 length does not match the dimensions
@@ -107,22 +107,22 @@ fn lines_end_under_their_columns() {
 }
 
 /// Counts by class and outcome's word.
-type Grid = [[usize; 3]; 4];
+type Grid = [[usize; 4]; 4];
 
 fn numbers(cells: Vec<String>) -> Vec<usize> {
     let number = |cell: String| cell.parse().expect("a number");
     cells.into_iter().map(number).collect()
 }
 
-/// The grid that a summary shows, from the order of its columns: turned, no turn, lost centre.
+/// The grid that a summary shows, from the order of its columns: turned, no turn, lost centre, ellipse.
 fn grid(text: &str, title: &str) -> Grid {
     let row = |class: usize| {
         let cells = numbers(cells(text, title, &class.to_string()));
-        let [turned, no_turn, lost, all] = cells[..] else {
-            panic!("{title} has four columns");
+        let [turned, no_turn, lost, ellipse, all] = cells[..] else {
+            panic!("{title} has five columns");
         };
-        assert_eq!(turned + no_turn + lost, all);
-        [no_turn, turned, lost]
+        assert_eq!(turned + no_turn + lost + ellipse, all);
+        [no_turn, turned, lost, ellipse]
     };
     [row(0), row(1), row(2), row(3)]
 }
@@ -130,27 +130,52 @@ fn grid(text: &str, title: &str) -> Grid {
 /// How many have no turn, of how many.
 fn missed(grid: Grid) -> [usize; 2] {
     let all: usize = grid.iter().flatten().sum();
-    [grid.iter().map(|row| row[0] + row[2]).sum(), all]
+    let without = |row: &[usize; 4]| row[0] + row[2] + row[3];
+    [grid.iter().map(without).sum(), all]
 }
 
 #[test]
 fn the_judges_counts() {
     let folder = Folder::new("summary-judge");
-    let mut args = vec!["summary".to_owned()];
-    let mut answers = [0; crops::ANSWERS.len()];
-    let (mut crops, mut boxes) = (Grid::default(), Grid::default());
-    for (name, file) in of_each_family(15) {
-        folder.write(&name, &file);
-        args.push(name);
-        let (report, records, _) = judged(&file);
-        answers[report.answer as usize] += 1;
+    counted(&folder, &["summary"], false);
+    counted(&folder, &["summary", "--ellipse"], true);
+}
+
+/// What the judge counts: answers, crops and boxes.
+#[derive(Default)]
+struct Judged {
+    answers: [usize; crops::ANSWERS.len()],
+    crops: Grid,
+    boxes: Grid,
+}
+
+impl Judged {
+    fn add(&mut self, file: &[u8], ellipse: bool) {
+        let (report, records, _) = judged_with(file, ellipse);
+        self.answers[report.answer as usize] += 1;
         let kept = records.chunks_exact(40).take(report.kept as usize);
         for (number, record) in kept.enumerate() {
             let (class, outcome) = (record[39] as usize, record[26] as usize);
-            boxes[class][outcome] += 1;
-            crops[class][outcome] += usize::from(number == 0);
+            self.boxes[class][outcome] += 1;
+            self.crops[class][outcome] += usize::from(number == 0);
         }
     }
+}
+
+/// Holds the counts of crops of each family, made with the ellipse check or without, against the judge's.
+fn counted(folder: &Folder, args: &[&str], ellipse: bool) {
+    let mut args: Vec<String> = args.iter().map(|&arg| arg.into()).collect();
+    let mut judged = Judged::default();
+    for (name, file) in [of_each_family(15), for_ellipses(30)].concat() {
+        folder.write(&name, &file);
+        judged.add(&file, ellipse);
+        args.push(name);
+    }
+    let Judged {
+        answers,
+        crops,
+        boxes,
+    } = judged;
     let text = folder.bullseye(&args).text();
     for (number, count) in (0..).zip(answers) {
         let label = format!("{number} {}", crops::meaning(number).expect("known"));
@@ -160,6 +185,7 @@ fn the_judges_counts() {
     assert_eq!(grid(&text, "Class of boxes"), boxes);
     assert!(crops.iter().all(|row| row[1] > 0), "each class occurs");
     assert_ne!(crops, boxes);
+    assert_eq!(boxes.iter().any(|row| row[3] > 0), ellipse);
     let searched = answers[0] + answers[7] + answers[8] + answers[9];
     for (label, expected) in [
         ("crops whose first box has no turn", missed(crops)),
@@ -212,6 +238,6 @@ fn totals_equal_the_inputs() {
         [0, 1].map(|column| sum(&text, "Outcome", column)),
         [with_box, boxes]
     );
-    assert_eq!(sum(&text, "Class of crops", 3), with_box);
-    assert_eq!(sum(&text, "Class of boxes", 3), boxes);
+    assert_eq!(sum(&text, "Class of crops", 4), with_box);
+    assert_eq!(sum(&text, "Class of boxes", 4), boxes);
 }

@@ -194,7 +194,11 @@ fn wrong_lines() -> Vec<(String, &'static str)> {
             "line 2: unknown answer: 10",
         ),
         (replaced(",144,2,", ",144,4,"), "line 2: unknown class: 4"),
-        (replaced(",23,1,", ",23,3,"), "line 2: unknown outcome: 3"),
+        (replaced(",23,1,", ",23,4,"), "line 2: unknown outcome: 4"),
+        (
+            replaced(",23,1,", ",23,3,"),
+            "line 2: an ellipse in a table made without --ellipse",
+        ),
         (
             replaced(",92,92,23", ",9x,92,23"),
             "line 2: x is no number: \"9x\"",

@@ -59,8 +59,8 @@ pub fn well_formed(svg: &str) {
     assert!(open.is_empty(), "{open:?}");
 }
 
-/// Holds a picture against the judge's words.
-fn compare(name: &str, file: &[u8], svg: &str) {
+/// Holds a picture against the judge's words, with the ellipse check or without.
+fn compare(name: &str, file: &[u8], svg: &str, ellipse: bool) {
     well_formed(svg);
     let (width, height, black) = pixels(file);
     let paths = elements(svg, "path class=");
@@ -69,7 +69,7 @@ fn compare(name: &str, file: &[u8], svg: &str) {
         covered(value(path.expect("it is there"), "d"), width, height)
     };
     assert_eq!(path("pixels"), black, "{name}");
-    let (report, records, marks) = judged(file);
+    let (report, records, marks) = judged_with(file, ellipse);
     let row = width.div_ceil(64);
     let read = |i: usize| marks[i / width * row + i % width / 64] >> (i % width % 64) & 1 != 0;
     let read: Vec<bool> = (0..width * height).map(read).collect();
@@ -80,22 +80,45 @@ fn compare(name: &str, file: &[u8], svg: &str) {
         .collect();
     let turned = kept.iter().filter(|record| record[26] == 1).count();
     assert_eq!(elements(svg, "line ").len(), turned, "{name}");
-    assert_eq!(elements(svg, "circle").len(), kept.len(), "{name}");
-    assert_eq!(elements(svg, "polygon").len(), kept.len(), "{name}");
-    // The best record is drawn last.
-    let circles = elements(svg, "circle").into_iter().rev();
-    let shapes = circles.zip(elements(svg, "polygon").into_iter().rev());
-    for (rank, (record, (circle, polygon))) in (1..).zip(kept.into_iter().zip(shapes)) {
-        compare_record(record, circle, polygon);
+    let shapes = records_drawn(svg);
+    assert_eq!(shapes.len(), kept.len(), "{name}");
+    for (rank, (record, shape)) in (1..).zip(kept.into_iter().zip(shapes)) {
+        compare_circle(record, shape);
+        match record[26] {
+            3 => compare_ellipse(record, shape),
+            _ => compare_box(record, shape),
+        }
         let label = format!(">{rank}: {}, class {};", outcome(record), record[39]);
         assert_eq!(svg.matches(&label).count(), 2, "{name}: {label}");
     }
 }
 
-/// Holds a record's circle and its box, corner after corner going round, against its words.
-fn compare_record(record: &[u32], circle: &str, polygon: &str) {
+/// What is drawn of each record, the best first: it is drawn last.
+fn records_drawn(svg: &str) -> Vec<&str> {
+    let parts = svg.split("<g class=\"record\"").skip(1);
+    let mut drawn: Vec<&str> = parts.collect();
+    drawn.reverse();
+    drawn
+}
+
+/// The only element with this name.
+fn only<'a>(svg: &'a str, name: &str) -> &'a str {
+    let found = elements(svg, name);
+    assert_eq!(found.len(), 1, "{name} in {svg}");
+    found[0]
+}
+
+/// Holds a record's circle against its words.
+fn compare_circle(record: &[u32], shape: &str) {
+    let circle = only(shape, "circle");
     let words = ["cx", "cy", "r"].map(|name| value(circle, name).parse().ok());
     assert_eq!(words, [0, 1, 2].map(|at| Some(record[at])));
+}
+
+/// Holds a record's box, corner after corner going round, against its words.
+fn compare_box(record: &[u32], shape: &str) {
+    assert!(elements(shape, "ellipse").is_empty());
+    let polygon = only(shape, "polygon");
     let corner = |at: usize| {
         let [x, y] = [record[at], record[at + 1]].map(f32::from_bits);
         format!("{x:.2},{y:.2}")
@@ -104,11 +127,31 @@ fn compare_record(record: &[u32], circle: &str, polygon: &str) {
     assert_eq!(value(polygon, "points"), round);
 }
 
+/// An ellipse is drawn about the centre as found, with four fifths of the 144 end points passing at least, and has no box.
+fn compare_ellipse(record: &[u32], shape: &str) {
+    assert!(elements(shape, "polygon").is_empty());
+    let ellipse = only(shape, "ellipse");
+    let number = |name: &str| value(ellipse, name).parse::<u32>().expect("a number");
+    assert_eq!(["cx", "cy"].map(number), [record[0], record[1]]);
+    let [longest, shortest] = ["rx", "ry"].map(number);
+    assert!(longest > shortest && shortest > 0);
+    let path = |class: &str| only(shape, &format!("path class=\"{class}\""));
+    let points = |class: &str| value(path(class), "d").matches('M').count();
+    assert_eq!(points("passing") + points("failing"), 144);
+    assert!(points("passing") >= 116);
+    let halves = format!(
+        "; halves {longest} and {shortest}, {} of 144 ",
+        points("passing")
+    );
+    assert!(shape.contains(&halves), "{halves}");
+}
+
 /// A record's outcome in words.
 fn outcome(record: &[u32]) -> String {
     match record[26] {
         0 => "no turn".into(),
         1 => format!("turned {}°", f32::from_bits(record[28])),
+        3 => "ellipse".into(),
         _ => "lost centre".into(),
     }
 }
@@ -147,12 +190,16 @@ fn pictures_of_every_family() {
     let mut crops = of_each_family(8);
     crops.push(("parcel".into(), parcel()));
     crops.push(("white".into(), white()));
+    crops.push(("ellipse".into(), ellipse()));
+    crops.extend(for_ellipses(40));
     for (name, file) in crops {
         folder.write(&name, &file);
-        let ran = folder.bullseye(&["view", &name]);
-        assert_eq!((ran.code, ran.err.as_str()), (Some(0), ""), "{name}");
-        compare(&name, &file, &ran.text());
-        within(&ran.text());
+        for (args, ellipse) in [(&["view"][..], false), (&["view", "--ellipse"], true)] {
+            let ran = folder.bullseye(&[args, &[&name]].concat());
+            assert_eq!((ran.code, ran.err.as_str()), (Some(0), ""), "{name}");
+            compare(&name, &file, &ran.text(), ellipse);
+            within(&ran.text());
+        }
     }
 }
 
@@ -176,7 +223,7 @@ fn a_name_with_marks_of_its_own() {
     let ran = folder.bullseye(&["view", "a<b>&\"c\"\n.crop"]);
     let svg = ran.text();
     assert!(svg.contains("<title>a&lt;b&gt;&amp;&quot;c&quot;\u{fffd}.crop</title>"));
-    compare("named", &parcel(), &svg);
+    compare("named", &parcel(), &svg, false);
 }
 
 #[test]

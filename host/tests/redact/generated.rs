@@ -1,19 +1,22 @@
 //! Generated crops of all answers.
 use super::*;
-use crops::places::OUTCOME;
 use oracle::generate;
-use std::{collections::BTreeMap, thread};
+use std::{collections::BTreeMap, fs, thread};
 
 const MOST_RECORDS: usize = 12;
 
-/// A generated crop, with room for few records, so that a crowded one is done soon.
-fn picture(seed: u64) -> Picture {
-    let crop = generate::crop(seed);
+/// A generated crop, searched with the ellipse check or without, with room for few records, so that a crowded one is done soon.
+fn picture(seed: u64, ellipse: bool) -> Picture {
+    let crop = match ellipse && seed % 4 < 2 {
+        true => generate::ellipse(seed),
+        false => generate::crop(seed),
+    };
     Picture {
         width: crop.width,
         height: crop.height,
         words: crop.words,
         records_len: crop.capacity_words.min(MOST_RECORDS * RECORD_WORDS),
+        ellipse,
     }
 }
 
@@ -34,12 +37,15 @@ fn kinds(found: &Found) -> Vec<String> {
     kinds
 }
 
+/// What is to hold of a crop and what its search found, and of the redacted one.
+type Test = fn(&Picture, &Found, &Picture, &Redacted);
+
 /// Redacts the crops of these seeds, in two threads, and hands each to a test.
-fn each(seeds: u64, extent: Extent, test: fn(&Picture, &Found, &Picture, &Redacted)) -> Seen {
+fn each(seeds: u64, extent: Extent, ellipse: bool, test: Test) -> Seen {
     let half = |first: u64| {
         let mut seen = Seen::new();
         for seed in (first..seeds).step_by(2) {
-            let before = picture(seed);
+            let before = picture(seed, ellipse);
             let found = before.search();
             let (after, done) = before.redacted(extent);
             test(&before, &found, &after, &done);
@@ -84,7 +90,7 @@ fn spares_the_boxes(before: &Picture, found: &Found, after: &Picture, done: &Red
 
 #[test]
 fn the_same_result_with_less_black() {
-    let seen = each(2000, Extent::Outside, spares_the_boxes);
+    let seen = each(2000, Extent::Outside, false, spares_the_boxes);
     expect(
         &seen,
         &[
@@ -100,6 +106,29 @@ fn the_same_result_with_less_black() {
         &[("outcome 0", 100), ("outcome 1", 100), ("outcome 2", 50)],
     );
     expect(&seen, &[("several eyes", 50), ("set aside", 50)]);
+}
+
+#[test]
+fn the_same_result_with_the_ellipse_check() {
+    let seen = each(120, Extent::Outside, true, spares_the_boxes);
+    expect(&seen, &[("outcome 0", 5), ("outcome 1", 5)]);
+}
+
+/// Of an ellipse the square about its circle is spared; redacted further, it is still one.
+#[test]
+fn an_ellipse_stays_one() {
+    let path = concat!(env!("CARGO_MANIFEST_DIR"), "/../examples/ellipse.crop");
+    let eye = Picture {
+        ellipse: true,
+        ..Picture::of_file(&fs::read(path).expect("the example"))
+    };
+    let found = eye.search();
+    assert_eq!(found.records[OUTCOME], Outcome::Ellipse.number());
+    let (spared, done) = eye.redacted(Extent::Outside);
+    spares_the_boxes(&eye, &found, &spared, &done);
+    let (least, done) = eye.redacted(Extent::Least);
+    is_least(&eye, &found, &least, &done);
+    assert!(done.black_after < black(&spared.words));
 }
 
 /// The bound ends the tries in a crowded crop, and the result is the same all the same.
@@ -138,7 +167,7 @@ fn is_least(_: &Picture, found: &Found, after: &Picture, done: &Redacted) {
 
 #[test]
 fn the_least_black() {
-    let seen = each(120, Extent::Least, is_least);
+    let seen = each(120, Extent::Least, false, is_least);
     expect(
         &seen,
         &[

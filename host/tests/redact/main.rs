@@ -3,19 +3,23 @@ use bullseye::{
     Report,
     redact::{Extent, Redacted, black, most_searches, redact, same_report},
 };
-use crops::{RECORD_WORDS, places::CORNERS};
+use crops::{
+    Outcome, RECORD_WORDS,
+    places::{CENTER_X, CENTER_Y, CORNERS, OUTCOME, RADIUS},
+};
 
 mod address;
 mod generated;
 mod text;
 
-/// An image, and the length of the records that it is searched with.
+/// An image, the length of the records that it is searched with, and whether the search has the ellipse check.
 #[derive(Clone)]
 pub struct Picture {
     pub width: u32,
     pub height: u32,
     pub words: Vec<u64>,
     pub records_len: usize,
+    pub ellipse: bool,
 }
 
 /// What a search of a picture says, and what it read.
@@ -33,6 +37,7 @@ impl Picture {
             height,
             words: vec![0; crops::image_words(width, height)],
             records_len: crops::RECORDS * RECORD_WORDS,
+            ellipse: false,
         }
     }
 
@@ -51,8 +56,14 @@ impl Picture {
     pub fn search(&self) -> Found {
         let mut records = vec![0; self.records_len];
         let mut marks = vec![0; self.words.len()];
-        let (words, width, height) = (&self.words, self.width, self.height);
-        let report = bullseye::search_words(words, width, height, &mut records, &mut marks);
+        let report = bullseye::search_words(
+            &self.words,
+            self.width,
+            self.height,
+            &mut records,
+            &mut marks,
+            self.ellipse,
+        );
         Found {
             report,
             records,
@@ -70,6 +81,7 @@ impl Picture {
             self.height,
             &mut records,
             extent,
+            self.ellipse,
         );
         let (before, found) = (self.search(), after.search());
         assert_eq!((done.report, &records), (before.report, &before.records));
@@ -106,9 +118,13 @@ impl Found {
         (self.records.chunks_exact(RECORD_WORDS)).take(self.report.kept as usize)
     }
 
-    /// Whether a pixel lies in the rectangle about a kept record's box.
+    /// Whether a pixel lies in the rectangle about a kept record's box, or about the circle of an ellipse.
     pub fn in_a_box(&self, x: u32, y: u32) -> bool {
         self.kept().any(|record| {
+            if record[OUTCOME] == Outcome::Ellipse.number() {
+                let near = |at: u32, place: usize| at.abs_diff(record[place]) <= record[RADIUS];
+                return near(x, CENTER_X) && near(y, CENTER_Y);
+            }
             let corner = |place: usize| f32::from_bits(record[CORNERS + place]);
             let within = |at: u32, all: [f32; 4]| {
                 let least = all.iter().copied().fold(f32::MAX, f32::min).floor();

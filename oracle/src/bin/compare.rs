@@ -1,4 +1,5 @@
-//! Holds the Rust's own code and the second reading of the rules against each other on generated crops.
+//! Holds the Rust's own code and the second reading of the rules against each other on generated crops, with the ellipse check and
+//! without.
 //!
 //! usage: compare [--seed S] [--count N]
 
@@ -16,50 +17,87 @@ fn main() {
 
 #[cfg(source)]
 mod both {
+    use crops::places::{CENTER_X, CENTER_Y};
     use oracle::generate::{self, CELLS_SALT, CellCoverage, Coverage, Crop, Random};
-    use oracle::harness::steps::{Image, enclosing_rectangle};
+    use oracle::harness::steps::{Image, ellipse_widths, enclosing_rectangle};
     use oracle::second::Rectangle;
     use oracle::vectors::Lent;
-    use oracle::{Report, harness, second};
+    use oracle::{RECORD_WORDS, Report, harness, second};
 
-    /// Every crop once, searched and read as cells, one for cells, and a damaged or random file after each; the first difference
-    /// ends the run.
+    /// Every crop and one for the ellipse check, searched with it and without, the crop and one for cells read as cells, and a
+    /// damaged or random file after each; the first difference ends the run.
     pub fn run(seed: u64, count: u64) {
-        let mut coverage = Coverage::default();
+        let mut coverage = [Coverage::default(), Coverage::default()];
         let mut cells = CellCoverage::default();
         for at in seed..seed + count {
             let crop = generate::crop(at);
-            let (report, records) = whole_run(at, &crop);
-            coverage.add(report.answer, report.found, report.kept, &records);
-            damaged_file(at, &mut coverage);
+            for crop in [&crop, &generate::ellipse(at)] {
+                for (coverage, ellipse) in coverage.iter_mut().zip([false, true]) {
+                    let (report, records) = whole_run(at, crop, ellipse);
+                    coverage.add(report.answer, report.found, report.kept, &records);
+                    if ellipse {
+                        let kept = &records[..report.kept as usize * RECORD_WORDS];
+                        add_verdicts(at, crop, kept, coverage);
+                    }
+                }
+            }
+            damaged_file(at, &mut coverage[at as usize % 2]);
             for crop in [crop, generate::filling(at)] {
                 whole_cells(at, &crop, &mut cells);
             }
             damaged_cells(at, &mut cells);
         }
         println!("seeds {seed} to {}: no difference", seed + count - 1);
-        print!("{}{}", coverage.table(), cells.table());
-        for row in coverage.missing().iter().chain(&cells.missing()) {
+        finish(&coverage, &cells);
+    }
+
+    /// The tables, without the ellipse check and with it, and the rows that nothing has reached.
+    fn finish([off, on]: &[Coverage; 2], cells: &CellCoverage) {
+        println!("without the ellipse check\n{}", off.table());
+        println!("with the ellipse check\n{}", on.table());
+        print!("{}", cells.table());
+        for row in on.missing().iter().chain(&cells.missing()) {
             println!("not hit: {row}");
         }
     }
 
+    /// Both readings see the same widths about each kept centre, which are counted.
+    fn add_verdicts(seed: u64, crop: &Crop, records: &[u32], coverage: &mut Coverage) {
+        let (words, width, height) = (&crop.words[..], crop.width, crop.height);
+        let image = Image {
+            words,
+            width,
+            height,
+        };
+        for record in records.chunks_exact(RECORD_WORDS) {
+            let centre = (record[CENTER_X], record[CENTER_Y]);
+            let widths = second::ellipse_widths(words, width, height, centre);
+            let source = ellipse_widths(image, centre);
+            assert_eq!(
+                [source.longest, source.shortest, source.good],
+                [widths.longest, widths.shortest, widths.good],
+                "seed {seed}: widths about {centre:?}"
+            );
+            coverage.add_verdict(&widths);
+        }
+    }
+
     /// One crop as a file and as words: reports, words, records and marks of both readings are the same.
-    fn whole_run(seed: u64, crop: &Crop) -> (Report, Vec<u32>) {
+    fn whole_run(seed: u64, crop: &Crop, ellipse: bool) -> (Report, Vec<u32>) {
         let file = crop.file();
         let lengths = (crop.words.len(), crop.capacity_words, crop.words.len());
         let [mut a, mut b] = [0; 2].map(|_| Lent::new(lengths.0, lengths.1, lengths.2));
-        let report = a.search(harness::search_file, &file);
+        let report = a.search(harness::search_file, &file, ellipse);
         assert_eq!(
             report,
-            b.search(second::search_file, &file),
+            b.search(second::search_file, &file, ellipse),
             "seed {seed}: reports"
         );
         assert!(a == b, "seed {seed}: buffers differ");
-        let (w, h) = (crop.width, crop.height);
+        let (words, w, h) = (&crop.words, crop.width, crop.height);
         let [mut c, mut d] = [0; 2].map(|_| Lent::new(0, lengths.1, lengths.2));
-        let from_words = harness::search_words(&crop.words, w, h, &mut c.records, &mut c.marks);
-        let second = second::search_words(&crop.words, w, h, &mut d.records, &mut d.marks);
+        let from_words = harness::search_words(words, w, h, &mut c.records, &mut c.marks, ellipse);
+        let second = second::search_words(words, w, h, &mut d.records, &mut d.marks, ellipse);
         assert_eq!(from_words, report, "seed {seed}: words against file");
         assert_eq!(
             second, report,
@@ -85,10 +123,11 @@ mod both {
         let words = size + (seed % 5 == 1) as usize;
         let marks = size + (seed % 7 == 1) as usize;
         let [mut a, mut b] = [0; 2].map(|_| Lent::new(words, (seed % 90) as usize, marks));
-        let report = a.search(harness::search_file, &file);
+        let ellipse = seed % 2 == 1;
+        let report = a.search(harness::search_file, &file, ellipse);
         assert_eq!(
             report,
-            b.search(second::search_file, &file),
+            b.search(second::search_file, &file, ellipse),
             "seed {seed}: damaged file"
         );
         assert!(a == b, "seed {seed}: buffers after a damaged file");

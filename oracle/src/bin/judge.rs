@@ -2,16 +2,20 @@
 
 use std::process::ExitCode;
 
-const HELP: &str = "usage: judge [--full | --cells] < CROP
+const HELP: &str = "usage: judge [--ellipse] [--full] < CROP
+       judge --cells < CROP
 Prints the answer and counts, then one line for each kept record.
---full   prints also all record words up to kept, a line each, and the marks, in hex
---cells  prints the answer of cells and, with 0, the 33 words, a line each, in hex
---help   prints this";
+--ellipse  searches with the ellipse check
+--full     prints also all record words up to kept, a line each, and the marks, in hex
+--cells    prints the answer of cells and, with 0, the 33 words, a line each, in hex
+--help     prints this";
 
 /// What is printed of a crop.
 enum Asked {
     Search,
     FullSearch,
+    EllipseSearch,
+    FullEllipseSearch,
     Cells,
 }
 
@@ -20,6 +24,8 @@ fn main() -> ExitCode {
     match arguments.iter().map(String::as_str).collect::<Vec<_>>()[..] {
         [] => judge::run(Asked::Search),
         ["--full"] => judge::run(Asked::FullSearch),
+        ["--ellipse"] => judge::run(Asked::EllipseSearch),
+        ["--ellipse", "--full"] => judge::run(Asked::FullEllipseSearch),
         ["--cells"] => judge::run(Asked::Cells),
         ["--help"] => {
             println!("{HELP}");
@@ -61,8 +67,10 @@ mod judge {
             return ExitCode::FAILURE;
         }
         let text = match asked {
-            Asked::Search => searched(&file, false),
-            Asked::FullSearch => searched(&file, true),
+            Asked::Search => searched(&file, false, false),
+            Asked::FullSearch => searched(&file, false, true),
+            Asked::EllipseSearch => searched(&file, true, false),
+            Asked::FullEllipseSearch => searched(&file, true, true),
             Asked::Cells => cells(&file),
         };
         match stdout().write_all(text.as_bytes()) {
@@ -92,11 +100,11 @@ mod judge {
         text
     }
 
-    /// The report and the records of a search, with all words and marks or without.
-    fn searched(file: &[u8], full: bool) -> String {
+    /// The report and the records of a search, with the ellipse check or without, and with all words and marks or without.
+    fn searched(file: &[u8], ellipse: bool, full: bool) -> String {
         let (mut words, mut marks) = (image_words(file), image_words(file));
         let mut buffer = vec![0; RECORD_WORDS * RECORDS];
-        let report = harness::search_file(file, &mut words, &mut buffer, &mut marks);
+        let report = harness::search_file(file, &mut words, &mut buffer, &mut marks, ellipse);
         let records = &buffer[..RECORD_WORDS * report.kept as usize];
         let mut text = lines::of_report(report, records);
         if full {
@@ -116,7 +124,7 @@ mod judge {
         fn sample_line() {
             let mut file = vec![0x10, 0x21, 0x02, 0x10];
             file.resize(4 + 165, 0);
-            let text = searched(&file, false);
+            let text = searched(&file, false, false);
             assert_eq!(text, "answer 8 found 0 kept 0 marked 242\n");
             assert_eq!(cells(&file), "answer 10\n");
             file[4] = 0x80;
@@ -129,7 +137,8 @@ mod judge {
         #[test]
         fn refused_file() {
             let text = "answer 1 found 0 kept 0 marked 0\n";
-            assert_eq!(searched(&[], false), text);
+            assert_eq!(searched(&[], false, false), text);
+            assert_eq!(searched(&[], true, true), text.to_string() + "\n");
             assert_eq!(cells(&[]), "answer 1\n");
         }
     }

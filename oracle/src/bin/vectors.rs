@@ -1,5 +1,6 @@
 //! Chooses the stored vectors: for each row of the coverage table the smallest crop that hits it, some of every family,
-//! damaged files for each refusal, and the crops of a folder (Zint's symbols).
+//! damaged files for each refusal, and the crops of a folder (Zint's symbols); then, with the ellipse check, the smallest crops for
+//! all that it can say, and refusals.
 //!
 //! With `--again` OUT's own crops are answered anew, and those are added that a changed rule brings among the chosen.
 //!
@@ -44,18 +45,28 @@ fn main() {
 
 #[cfg(source)]
 mod choose {
-    use std::collections::BTreeMap;
+    use std::collections::{BTreeMap, BTreeSet};
     use std::path::Path;
 
     use crops::places::{CLASS, OUTCOME, ROTATION, SCALE};
-    use crops::words_of;
+    use crops::{RECORD_WORDS, words_of};
     use oracle::generate::{self, Coverage, Crop};
     use oracle::harness::{self, search_file};
+    use oracle::second::{EllipseVerdict, EllipseWidths};
     use oracle::vectors::Vector;
 
     /// How many crops of a family are kept beside the smallest for each row, and how many files for each refusal.
     const OF_A_FAMILY: usize = 16;
     const OF_A_REFUSAL: usize = 8;
+
+    /// How many of the smallest crops are kept for each row with the ellipse check.
+    const OF_A_CHECK: usize = 2;
+
+    /// What gives the crops that are searched with the ellipse check.
+    const CHECKED: [fn(u64) -> Crop; 2] = [generate::ellipse, generate::crop];
+
+    /// Files of this many bytes or more are taken with the ellipse check only for rows that small ones do not have.
+    const LARGE: usize = 5_000;
 
     /// A folder's crops of this many bytes or more are left out, to keep the pack small.
     const TOO_LONG: usize = 12_000;
@@ -68,6 +79,7 @@ mod choose {
         chosen.extend(refused());
         chosen.extend(lengths_refused());
         chosen.extend(folder.map(stored_crops).unwrap_or_default());
+        chosen.extend(with_check(seeds));
         chosen
     }
 
@@ -76,7 +88,7 @@ mod choose {
         let stored = oracle::vectors::read(pack);
         let anew = |v: &Vector| {
             let lengths = [v.words_len, v.records_len, v.marks_len];
-            Vector::made(&v.name, &v.file, lengths, search_file)
+            Vector::made(&v.name, &v.file, lengths, v.ellipse, search_file)
         };
         let mut chosen: Vec<Vector> = stored.iter().map(anew).collect();
         let mut changes = BTreeMap::new();
@@ -88,7 +100,7 @@ mod choose {
             println!("{change} | {count}");
         }
         let known = |v: &Vector| stored.iter().any(|old| old.name == v.name);
-        let added: Vec<Vector> = (smallest(seeds).into_iter())
+        let added: Vec<Vector> = (smallest(seeds).into_iter().chain(with_check(seeds)))
             .filter(|v| !known(v))
             .collect();
         println!("added | {}\n", added.len());
@@ -100,15 +112,23 @@ mod choose {
         let mut coverage = Coverage::default();
         for v in vectors {
             coverage.add(v.report.answer, v.report.found, v.report.kept, &v.records);
+            for widths in v.ellipse_widths() {
+                coverage.add_verdict(&widths);
+            }
         }
         coverage
+    }
+
+    /// A vector without the ellipse check.
+    fn plain(name: &str, file: &[u8], lengths: [usize; 3]) -> Vector {
+        Vector::made(name, file, lengths, false, search_file)
     }
 
     /// The manual's sample, the smallest crop, all white.
     fn sample() -> Vec<Vector> {
         let mut file = vec![0x10, 0x21, 0x02, 0x10];
         file.resize(169, 0);
-        vec![Vector::made("sample", &file, [33, 16_000, 33], search_file)]
+        vec![plain("sample", &file, [33, 16_000, 33])]
     }
 
     /// A crop whose black pixels are those where `black` holds.
@@ -173,14 +193,14 @@ mod choose {
         ];
         let vector = |&(w, h): &(u32, u32)| {
             let file = (1 << 28 | w << 16 | h << 4 as u32).to_be_bytes();
-            Vector::made(&format!("header {w} {h}"), &file, [1, 40, 1], search_file)
+            plain(&format!("header {w} {h}"), &file, [1, 40, 1])
         };
         sides.iter().map(vector).collect()
     }
 
     fn made(name: &str, crop: &Crop, records_len: usize) -> Vector {
         let n = crop.words.len();
-        Vector::made(name, &crop.file(), [n, records_len, n], search_file)
+        plain(name, &crop.file(), [n, records_len, n])
     }
 
     /// The rows of the coverage table that a vector hits, and its family with its answer.
@@ -191,7 +211,7 @@ mod choose {
             "answer {answer} found {}",
             (v.report.found > 0) as u32
         ));
-        for record in v.records.chunks_exact(oracle::RECORD_WORDS) {
+        for record in v.records.chunks_exact(RECORD_WORDS) {
             rows.push(format!(
                 "outcome {} scale {}",
                 record[OUTCOME], record[SCALE]
@@ -256,7 +276,7 @@ mod choose {
                 of_number[number] += 1;
                 let size = words_of(&file).min(100);
                 let name = format!("refused {number} {seed}");
-                chosen.push(Vector::made(&name, &file, [size, 80, size], search_file));
+                chosen.push(plain(&name, &file, [size, 80, size]));
             }
         }
         chosen
@@ -277,21 +297,11 @@ mod choose {
         ];
         let mut chosen = Vec::new();
         for (i, lengths) in lengths.into_iter().enumerate() {
-            chosen.push(Vector::made(
-                &format!("lengths {i}"),
-                &crop.file(),
-                lengths,
-                search_file,
-            ));
+            chosen.push(plain(&format!("lengths {i}"), &crop.file(), lengths));
         }
         let mut short = crop.file();
         short.pop();
-        chosen.push(Vector::made(
-            "lengths and short file",
-            &short,
-            [n - 1, 39, n],
-            search_file,
-        ));
+        chosen.push(plain("lengths and short file", &short, [n - 1, 39, n]));
         chosen
     }
 
@@ -304,8 +314,116 @@ mod choose {
             let file = std::fs::read(path).expect("a crop");
             let stem = path.file_stem().expect("a name").to_string_lossy();
             let n = words_of(&file);
-            (file.len() < TOO_LONG).then(|| Vector::made(&stem, &file, [n, 16_000, n], search_file))
+            (file.len() < TOO_LONG).then(|| plain(&stem, &file, [n, 16_000, n]))
         };
         paths.iter().filter_map(vector).collect()
+    }
+    /// Vectors with the ellipse check: what is refused, the rules' examples, and the smallest crops for all that it can say, those
+    /// with an ellipse without it too.
+    fn with_check(seeds: u64) -> Vec<Vector> {
+        let mut refusals = BTreeMap::new();
+        for v in refused() {
+            refusals.entry(v.report.answer).or_insert(v);
+        }
+        let others = sample().into_iter().chain(near_pairs());
+        let mut chosen: Vec<Vector> = (others.chain(refusals.into_values()))
+            .chain(lengths_refused())
+            .map(|v| checked(&v.name, &v.file, [v.words_len, v.records_len, v.marks_len]))
+            .collect();
+        let near = generate::near_ellipses().into_iter();
+        let near = near.map(|(name, crop)| (name.to_string(), crop));
+        let smallest = smallest_checked(seeds).into_iter().map(|(maker, seed)| {
+            let crop = CHECKED[maker](seed);
+            (format!("{} {seed}", crop.family), crop)
+        });
+        for (name, crop) in near.chain(smallest) {
+            let (file, n) = (crop.file(), crop.words.len());
+            let lengths = [n, crop.capacity_words, n];
+            let v = checked(&name, &file, lengths);
+            let mut records = v.records.chunks_exact(RECORD_WORDS);
+            let ellipse = records.any(|record| record[OUTCOME] == 3);
+            chosen.push(v);
+            if ellipse {
+                chosen.push(plain(&format!("{name} off"), &file, lengths));
+            }
+        }
+        chosen
+    }
+
+    /// A vector with the ellipse check, which its name says.
+    fn checked(name: &str, file: &[u8], lengths: [usize; 3]) -> Vector {
+        Vector::made(&format!("{name} on"), file, lengths, true, search_file)
+    }
+
+    /// The smallest crops for each row with the ellipse check, each as its maker's place and its seed.
+    fn smallest_checked(seeds: u64) -> BTreeSet<(usize, u64)> {
+        let mut best: BTreeMap<String, BTreeSet<(usize, usize, u64)>> = BTreeMap::new();
+        for (maker, seed) in (0..CHECKED.len()).flat_map(|k| (0..seeds).map(move |seed| (k, seed)))
+        {
+            let crop = CHECKED[maker](seed);
+            let n = crop.words.len();
+            let v = checked(crop.family, &crop.file(), [n, crop.capacity_words, n]);
+            let size = v.file.len() + 4 * v.records.len();
+            for row in checked_rows(&crop, &v) {
+                let entry = best.entry(row).or_default();
+                entry.insert((size, maker, seed));
+                if entry.len() > OF_A_CHECK {
+                    entry.pop_last();
+                }
+            }
+        }
+        let places = best.into_values().flatten();
+        places.map(|(_, maker, seed)| (maker, seed)).collect()
+    }
+
+    /// What is told of a search with the ellipse check: its family with each verdict, what is at a limit, and ellipses beside other
+    /// records.
+    fn checked_rows(crop: &Crop, v: &Vector) -> Vec<String> {
+        let records = v.records.chunks_exact(RECORD_WORDS);
+        let outcomes: Vec<u32> = records.map(|record| record[OUTCOME]).collect();
+        let mut rows = Vec::new();
+        for (widths, outcome) in v.ellipse_widths().iter().zip(&outcomes) {
+            if v.file.len() < LARGE {
+                let verdict = widths.verdict();
+                rows.push(format!("{} {verdict:?} outcome {outcome}", crop.family));
+            }
+            rows.extend(limit_row(widths));
+        }
+        let ellipses = outcomes.iter().filter(|outcome| **outcome == 3).count();
+        if ellipses > 0 {
+            rows.extend(rows_without(crop, v));
+        }
+        if ellipses > 0 && outcomes.len() > 1 {
+            let (first, all) = (outcomes[0] == 3, ellipses == outcomes.len());
+            rows.push(format!("several, first {first}, all {all}"));
+        }
+        rows
+    }
+
+    /// What about the widths of one record is at a limit: halves that are equal, end points about four fifths, the least half, lengths.
+    fn limit_row(widths: &EllipseWidths) -> Option<String> {
+        let EllipseWidths {
+            longest,
+            shortest,
+            good,
+        } = *widths;
+        match widths.verdict() {
+            EllipseVerdict::EqualHalves if good >= 116 => Some("all but halves".to_string()),
+            EllipseVerdict::EqualHalves => Some(format!("halves of {}", longest - shortest)),
+            _ if (110..=122).contains(&good) => Some(format!("{good} points")),
+            verdict if shortest < 2 => Some(format!("{verdict:?} with half 0")),
+            verdict if longest > 1_900 => Some(format!("{verdict:?} of a long one")),
+            _ => None,
+        }
+    }
+
+    /// What outcomes the ellipses of a vector have without the check, and whether another class than 0.
+    fn rows_without(crop: &Crop, v: &Vector) -> Vec<String> {
+        let plain = made(&v.name, crop, v.records_len);
+        let records = v.records.chunks_exact(RECORD_WORDS);
+        (records.zip(plain.records.chunks_exact(RECORD_WORDS)))
+            .filter(|(record, _)| record[OUTCOME] == 3)
+            .map(|(_, plain)| format!("{} {} without", plain[OUTCOME], plain[CLASS] > 0))
+            .collect()
     }
 }

@@ -5,7 +5,7 @@ use std::collections::BTreeMap;
 
 use crops::{HEADER_BYTES, words_of};
 
-use super::left::{TOO_LONG, kind, length, painted, size};
+use super::left::{CHANGES, TOO_LONG, kind, length, painted, size};
 use crate::generate::{self, Random, rectangle_rows};
 use crate::second::enclosing_rectangle;
 
@@ -14,25 +14,6 @@ const MORE: usize = 2;
 
 /// Lengths of a cell buffer, mostly the right one.
 const CELLS: [usize; 8] = [33, 33, 33, 33, 0, 32, 34, 40];
-
-/// What is changed of an image in words at the edges of each number.
-const CHANGES: [&str; 15] = [
-    "size=32x33",
-    "size=33x32",
-    "size=34x33",
-    "size=64x33",
-    "size=65x33",
-    "size=2048x250",
-    "size=2048x251",
-    "size=2049x33",
-    "cut=0",
-    "cut=32",
-    "cut=34",
-    "flip=0",
-    "flip=32",
-    "flip=33",
-    "flip=63",
-];
 
 /// A rectangle of black and white pixels, so that a cell read beside its place shows; the first and the last pixel are black.
 fn textured(width: u32, height: u32, first: (u32, u32), last: (u32, u32)) -> Vec<u8> {

@@ -10,7 +10,7 @@ use crops::{
     words_of,
 };
 
-use super::cells;
+use super::{cells, ellipses};
 use crate::generate::{self, Random};
 use crate::second;
 
@@ -25,8 +25,27 @@ const OF_A_REFUSAL: usize = 14;
 const MORE: usize = 5;
 
 /// Lengths of a record buffer: none, one, several, the program's, and beyond what a search holds.
-const RECORDS: [usize; 12] = [
+pub const RECORDS: [usize; 12] = [
     0, 39, 40, 41, 79, 80, 120, 481, 1480, 16_000, 40_960, 41_003,
+];
+
+/// What is changed of an image in words at the edges of each number; the crop has 33 by 33 pixels.
+pub const CHANGES: [&str; 15] = [
+    "size=32x33",
+    "size=33x32",
+    "size=34x33",
+    "size=64x33",
+    "size=65x33",
+    "size=2048x250",
+    "size=2048x251",
+    "size=2049x33",
+    "cut=0",
+    "cut=32",
+    "cut=34",
+    "flip=0",
+    "flip=32",
+    "flip=33",
+    "flip=63",
 ];
 
 /// Dimensions at the limits, and far beyond them.
@@ -40,8 +59,11 @@ const HEADING: &str = "\
 /// The crops' text and the left sides' text, from this seed on.
 pub fn made(seed: u64, seeds: u64) -> (String, String) {
     let (searched, filling) = (files(seed, seeds), cells::files(seed, seeds));
+    let checked = ellipses::files(seed, seeds);
     let all = || searched.iter().chain(&filling).zip(1..);
-    let crops = all().map(|(file, id)| Stock::line(&id.to_string(), file));
+    let last = searched.len() + filling.len();
+    let crops = all().chain(checked.iter().zip(last + 1..));
+    let crops = crops.map(|(file, id)| Stock::line(&id.to_string(), file));
     let mut random = Random::new(seed);
     let mut lines: Vec<String> = Vec::new();
     for (file, id) in searched.iter().zip(1..) {
@@ -53,6 +75,13 @@ pub fn made(seed: u64, seeds: u64) -> (String, String) {
     for id in [1, searched.len() + 1] {
         lines.extend(cells::edges(id));
     }
+    for (file, id) in checked.iter().zip(last + 1..) {
+        lines.extend(ellipses::calls(&mut random, id, file));
+    }
+    for (file, id) in searched.iter().zip(1..) {
+        lines.push(ellipses::call(&mut random, id, file));
+    }
+    lines.extend(ellipses::edges(1));
     (
         crops.collect(),
         HEADING.to_string() + &lines.join("\n") + "\n",
@@ -141,7 +170,8 @@ fn searched<Row: Ord>(
         let mut marks = vec![0; crop.words.len()];
         let mut records = vec![0; RECORD_WORDS * 12];
         let (width, height) = (crop.width, crop.height);
-        let report = second::search_words(&crop.words, width, height, &mut records, &mut marks);
+        let report =
+            second::search_words(&crop.words, width, height, &mut records, &mut marks, false);
         let Some(row) = row(crop.family, report, &records) else {
             continue;
         };

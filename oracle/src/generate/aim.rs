@@ -156,8 +156,8 @@ impl Turns {
         canvas.stored(px as u32, py as u32) == Some(false)
     }
 
-    /// The ends of the walks left and right.
-    fn walk(&self, canvas: &Canvas, target: Target, degree: u32) -> [(f32, f32); 2] {
+    /// Where the walks left and right end, as columns before the turn.
+    pub fn walk(&self, canvas: &Canvas, target: Target, degree: u32) -> [u32; 2] {
         let (mut left, mut right) = (target.x, target.x + 1);
         while self.white(canvas, target, left, degree) && left > 0 {
             left -= 1;
@@ -165,13 +165,27 @@ impl Turns {
         while self.white(canvas, target, right, degree) {
             right += 1;
         }
-        [left, right].map(|x| self.turn((target.x, target.y), (x, target.y), degree))
+        [left, right]
+    }
+
+    /// The point of a column of the target's row, turned.
+    fn of_column(&self, target: Target, column: u32, degree: u32) -> (f32, f32) {
+        self.turn((target.x, target.y), (column, target.y), degree)
+    }
+
+    /// The pixel in which that point lies.
+    pub fn pixel(&self, target: Target, column: u32, degree: u32) -> (i32, i32) {
+        let (x, y) = self.of_column(target, column, degree);
+        (x as i32, y as i32)
     }
 
     /// The corrected centre, none when it lies outside the image.
     pub fn correct(&self, canvas: &Canvas, target: Target) -> Option<Target> {
-        let [one, two] = self.walk(canvas, target, 7);
-        let three = self.walk(canvas, target, 97)[0];
+        let ends = |degree| {
+            let columns = self.walk(canvas, target, degree);
+            columns.map(|column| self.of_column(target, column, degree))
+        };
+        let ([one, two], [three, _]) = (ends(7), ends(97));
         let (x, y) = circle_centre(one, two, three);
         let (x, y) = (x.round() as u32, y.round() as u32);
         let inside = x < canvas.width && y < canvas.height;

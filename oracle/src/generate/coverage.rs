@@ -1,7 +1,8 @@
-//! Which answers, outcomes, scales, classes and degrees a set of searches has reached.
+//! Which answers, outcomes, scales, classes, degrees and verdicts of the ellipse check a set of searches has reached.
 
 use std::fmt::Write;
 
+use crate::second::{EllipseVerdict, EllipseWidths};
 use crops::{ANSWERS, CLASSES, Outcome, RECORD_WORDS, Record, known};
 
 /// Upper ends of the rows of the count tables.
@@ -21,6 +22,8 @@ pub struct Coverage {
     pub degrees: [u64; 175],
     /// Turns by scale and degree.
     pub pairs: [[u64; 175]; 5],
+    /// Verdicts of the ellipse check: equal halves, too few points, an ellipse.
+    pub verdicts: [u64; 3],
     pub found: [u64; 9],
     pub kept: [u64; 9],
 }
@@ -45,6 +48,7 @@ impl Coverage {
             classes: [0; CLASSES as usize],
             degrees: [0; 175],
             pairs: [[0; 175]; 5],
+            verdicts: [0; 3],
             found: [0; 9],
             kept: [0; 9],
         }
@@ -70,8 +74,18 @@ impl Coverage {
         match record.outcome {
             Outcome::Turned => self.add_turn(record),
             Outcome::LostCentre => self.lost[record.scale as usize - 1] += 1,
-            Outcome::NoTurn => (),
+            Outcome::NoTurn | Outcome::Ellipse => (),
         }
+    }
+
+    /// Counts what the ellipse check says of a kept candidate, in a search that has it on.
+    pub fn add_verdict(&mut self, widths: &EllipseWidths) {
+        let at = match widths.verdict() {
+            EllipseVerdict::EqualHalves => 0,
+            EllipseVerdict::TooFewPoints => 1,
+            EllipseVerdict::Ellipse => 2,
+        };
+        self.verdicts[at] += 1;
     }
 
     fn add_turn(&mut self, record: &Record) {
@@ -99,6 +113,10 @@ impl Coverage {
         push("lost centre at scale", 1, 1, &self.lost);
         push("class", 0, 1, &self.classes);
         push("turn of degree", 0, 2, &self.degrees);
+        let said = ["equal halves", "too few points", "an ellipse"];
+        for (said, count) in said.into_iter().zip(self.verdicts) {
+            rows.push((format!("ellipse check: {said}"), count));
+        }
         rows
     }
 

@@ -8,9 +8,19 @@ use super::random::Random;
 
 /// Scale (from 0) and degree that an image shall end with.
 #[derive(Clone, Copy)]
-struct Wish {
+pub struct Wish {
     scale: usize,
     degree: u32,
+}
+
+impl Wish {
+    /// Any scale, and any degree that a turn can have.
+    pub fn any(random: &mut Random) -> Self {
+        Wish {
+            scale: random.below(5) as usize,
+            degree: 2 * random.below(175),
+        }
+    }
 }
 
 /// An image whose centre eye gets a wanted turn, if one of several tries succeeds.
@@ -100,7 +110,7 @@ fn centre_at(turns: &Turns, canvas: &Canvas, target: Target, scale: usize) -> Op
 }
 
 /// Paint and repair until the candidate ends as wished; kept too if a border forbids it.
-fn aimed(
+pub fn aimed(
     random: &mut Random,
     turns: &Turns,
     canvas: &mut Canvas,

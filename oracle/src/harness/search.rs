@@ -1,6 +1,8 @@
-// The accepted search: the source's sweep, its retain and sort, and its box for each kept circle.
+// The accepted search: the source's sweep, its retain and sort, and for each kept circle its ellipse check, if the option is on, and
+// its box.
 
 use super::super::super::{Record, Report, capacity};
+use super::super::ELLIPSE;
 use super::{BitMatrix, Circle, box_symbol, detect, find_concentric_circles};
 use crate::RECORD_WORDS;
 
@@ -11,16 +13,17 @@ pub fn search(
     height: u32,
     records: &mut [u32],
     marks: &mut [u64],
+    ellipse: bool,
 ) -> Report {
     let image = BitMatrix::of(words, width, height);
-    let report = search_image(&image, records);
+    let report = search_image(&image, records, ellipse);
     marks.fill(0);
     image.marks().write_to(marks);
     report
 }
 
 /// The same of a prepared image, whose log is cleared first and counted at the end.
-pub(super) fn search_image(image: &BitMatrix, records: &mut [u32]) -> Report {
+pub(super) fn search_image(image: &BitMatrix, records: &mut [u32], ellipse: bool) -> Report {
     image.marks().reset();
     let capacity = capacity(records);
     let sweep = find_concentric_circles(image, capacity);
@@ -34,6 +37,7 @@ pub(super) fn search_image(image: &BitMatrix, records: &mut [u32]) -> Report {
     let whole = &mut records[..RECORD_WORDS * capacity];
     whole.fill(0);
     for (circle, record) in kept.iter_mut().zip(whole.chunks_exact_mut(RECORD_WORDS)) {
+        circle.trace.ellipse = ellipse;
         boxed(image, circle).write_to(record);
     }
     Report {
@@ -49,10 +53,13 @@ pub(super) fn search_image(image: &BitMatrix, records: &mut [u32]) -> Report {
     }
 }
 
-/// The record of a kept circle, after its box and turn.
+/// The record of a kept circle, after its box and turn; the source's error is an ellipse, which has neither.
 pub(super) fn boxed(image: &BitMatrix, circle: &mut Circle) -> Record {
     let found = [circle.center.x, circle.center.y];
-    let (corners, rotation) = box_symbol(image, circle).expect("no error without experiments");
+    let (corners, rotation) = box_symbol(image, circle).unwrap_or_else(|_| {
+        circle.trace.outcome = ELLIPSE;
+        Default::default()
+    });
     Record {
         found,
         radius: circle.radius,

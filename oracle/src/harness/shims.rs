@@ -39,13 +39,15 @@ impl Square for f64 {
     }
 }
 
-/// What a candidate's scales came to: 0 no turn, or one of the two below.
+/// What a candidate came to: 0 no turn, or one of the three below.
 pub const TURNED: u32 = 1;
 pub const LOST: u32 = 2;
+pub const ELLIPSE: u32 = 3;
 
-/// The scales tried for a candidate, and the outcome.
+/// Whether a candidate is checked for an ellipse, the scales tried for it, and the outcome.
 #[derive(Clone, Copy, Default)]
 pub struct Trace {
+    pub ellipse: bool,
     pub scale: u32,
     pub outcome: u32,
 }

@@ -36,6 +36,14 @@ pub struct Boxed {
     pub corners: [(f32, f32); 4],
 }
 
+/// Longest and shortest length of the ellipse check's walks, and how many of their end points pass.
+#[derive(Clone, Copy, Debug, PartialEq, Eq)]
+pub struct EllipseWidths {
+    pub longest: u32,
+    pub shortest: u32,
+    pub good: u32,
+}
+
 /// What a step answers, and the marks of its reads.
 pub type Marked<T> = (T, Vec<u64>);
 
@@ -72,10 +80,11 @@ impl Prepared {
         count
     }
 
-    /// The whole search. The log is cleared first and counted at the end; without a log nothing of this is done.
+    /// The whole search, with the ellipse check or without. The log is cleared first and counted at the end; without a log nothing
+    /// of this is done.
     #[inline(never)]
-    pub fn search(&self, records: &mut [u32]) -> Report {
-        search_image(&self.0, records)
+    pub fn search(&self, records: &mut [u32], ellipse: bool) -> Report {
+        search_image(&self.0, records, ellipse)
     }
 
     /// Answer and cells of a symbol that fills the image.
@@ -187,6 +196,12 @@ impl Prepared {
         Ranking::new(&self.0, candidates)
     }
 
+    /// Whether the widths about a centre are those of an ellipse.
+    #[inline(never)]
+    pub fn detect_ellipse(&self, centre: (u32, u32)) -> bool {
+        circle(&self.0, centre, 0).detect_ellipse().0
+    }
+
     /// The outcome of a circle's box and turn.
     #[inline(never)]
     pub fn box_symbol(&self, centre: (u32, u32), radius: u32) -> u32 {
@@ -245,6 +260,33 @@ pub fn width_at_degree(image: Image, centre: (u32, u32), degree: u32) -> Marked<
         let (length, ends) = circle(matrix, centre, 0).find_width_at_degree(degree as f32);
         (length, ends.map(|end| (end.x, end.y)))
     })
+}
+
+/// Whether the widths about a centre are those of an ellipse.
+pub fn detect_ellipse(image: Image, centre: (u32, u32)) -> Marked<bool> {
+    on(image, |matrix| circle(matrix, centre, 0).detect_ellipse().0)
+}
+
+/// What the ellipse check goes by, from a centre: the longest and the shortest of its 72 lengths, and how many of the 144 end points
+/// pass with their halves. The source's functions give lengths, end points and sums; it tells none of them itself.
+pub fn ellipse_widths(image: Image, centre: (u32, u32)) -> EllipseWidths {
+    let matrix = BitMatrix::of(image.words, image.width, image.height);
+    let circle = circle(&matrix, centre, 0);
+    let walks = || (0..72).map(|walk| circle.find_width_at_degree(walk as f32 * 5.0));
+    let longest = walks().map(|(length, _)| length).max().unwrap_or_default();
+    let shortest = walks().map(|(length, _)| length).min().unwrap_or_default();
+    let sum = |end: &Point| ellipse_sum(centre, (end.x, end.y), [longest / 2, shortest / 2]);
+    let beyond = (walks().flat_map(|(_, ends)| ends)).filter(|end| sum(end) > 1.0);
+    EllipseWidths {
+        longest,
+        shortest,
+        good: 144 - beyond.count() as u32,
+    }
+}
+
+/// The sum that tells whether an end point passes with a longest and a shortest half.
+pub fn ellipse_sum(centre: (u32, u32), (x, y): (f32, f32), [longest, shortest]: [u32; 2]) -> f64 {
+    Circle::check_ellipse_point(centre.into(), Point { x, y }, longest, shortest)
 }
 
 /// The corrected centre, which may lie outside the image.

@@ -56,10 +56,12 @@ fn refusals_change_no_buffer() {
     ];
     for (file, to, room, marked, answer) in cases {
         let (mut unpacked, mut records, mut marks) = (vec![7; to], vec![7; room], vec![7; marked]);
-        let report = search_file(file, &mut unpacked, &mut records, &mut marks);
-        assert_eq!(report, refused(answer));
-        assert!(unpacked.iter().chain(&marks).all(|word| *word == 7));
-        assert!(records.iter().all(|word| *word == 7));
+        for ellipse in [false, true] {
+            let report = search_file(file, &mut unpacked, &mut records, &mut marks, ellipse);
+            assert_eq!(report, refused(answer));
+            assert!(unpacked.iter().chain(&marks).all(|word| *word == 7));
+            assert!(records.iter().all(|word| *word == 7));
+        }
     }
     assert_eq!(check(&file), 0);
 }
@@ -68,13 +70,12 @@ fn refusals_change_no_buffer() {
 fn refusals_of_words() {
     let words = noise(65, 40, 100, 2);
     let report = |words: &[u64], width, height, room, marked| {
-        search_words(
-            words,
-            width,
-            height,
-            &mut vec![0; room],
-            &mut vec![0; marked],
-        )
+        let [off, on] = [false, true].map(|ellipse| {
+            let (mut records, mut marks) = (vec![0; room], vec![0; marked]);
+            search_words(words, width, height, &mut records, &mut marks, ellipse)
+        });
+        assert_eq!(on, off);
+        off
     };
     assert_eq!(report(&[], 0, 0, 0, 0), refused(2));
     assert_eq!(report(&words, u32::MAX, u32::MAX, 0, 0), refused(2));
@@ -90,7 +91,7 @@ fn words_beyond_the_capacity_stay() {
     let (words, width, height) = crosses(1);
     let mut records = vec![9; 3 * RECORD_WORDS + 5];
     let mut marks = vec![9; words.len()];
-    let report = search_words(&words, width, height, &mut records, &mut marks);
+    let report = search_words(&words, width, height, &mut records, &mut marks, false);
     assert_eq!((report.answer, report.found, report.kept), (0, 1, 1));
     assert_eq!(records[..3], [20, 20, 6]);
     assert!(
@@ -109,7 +110,7 @@ fn one_candidate_above_the_capacity() {
     let search = |room| {
         let (mut records, mut marks) = (vec![9; room * RECORD_WORDS], vec![0; words.len()]);
         (
-            search_words(&words, width, height, &mut records, &mut marks),
+            search_words(&words, width, height, &mut records, &mut marks, false),
             records,
         )
     };
@@ -124,23 +125,23 @@ fn one_candidate_above_the_capacity() {
     }
 }
 
-/// Words and file, logged and plain, agree on noise of many kinds; nothing panics.
+/// Words and file, logged and plain, agree on noise of many kinds, with the ellipse check and without; nothing panics.
 #[test]
 fn entries_agree_on_noise() {
-    for seed in 0..600 {
+    for (seed, ellipse) in (0..600).flat_map(|seed| [(seed, false), (seed, true)]) {
         let width = [33, 63, 64, 65, 127, 128, 129][seed as usize % 7];
         let height = 33 + seed as u32 % 40;
         let words = noise(width, height, seed % 257, seed);
         let (mut records, mut marks) = (vec![1; 50 * RECORD_WORDS], vec![1; words.len()]);
-        let logged = search_words(&words, width, height, &mut records, &mut marks);
+        let logged = search_words(&words, width, height, &mut records, &mut marks, ellipse);
         let (mut other, mut clear) = (vec![2; 50 * RECORD_WORDS], vec![2; words.len()]);
-        let plain = plain::search_words(&words, width, height, &mut other, &mut clear);
+        let plain = plain::search_words(&words, width, height, &mut other, &mut clear, ellipse);
         assert_eq!((plain.answer, plain.found), (logged.answer, logged.found));
         assert_eq!((plain.kept, plain.marked), (logged.kept, 0));
         assert_eq!(other, records);
         let file = crops::pack(&words, width, height);
         let (mut unpacked, mut again) = (vec![3; words.len()], vec![3; words.len()]);
-        let from_file = search_file(&file, &mut unpacked, &mut other, &mut again);
+        let from_file = search_file(&file, &mut unpacked, &mut other, &mut again, ellipse);
         assert_eq!((from_file, &other), (logged, &records));
         assert_eq!((unpacked, again), (words, marks));
     }

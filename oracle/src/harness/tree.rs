@@ -51,7 +51,7 @@ mod common {
 }
 
 mod maxicode {
-    use super::super::shims::{LOST, Square, TURNED, Trace, Turn, num};
+    use super::super::shims::{ELLIPSE, LOST, Square, TURNED, Trace, Turn, num};
 
     /// The symbol's columns and rows; `build.rs` checks them against the source.
     struct MaxiCodeReader;
@@ -84,13 +84,14 @@ mod maxicode {
     }
 }
 
-/// The search of an unpacked image.
+/// The search of an unpacked image, with the ellipse check or without.
 pub fn search_words(
     words: &[u64],
     width: u32,
     height: u32,
     records: &mut [u32],
     marks: &mut [u64],
+    ellipse: bool,
 ) -> Report {
     let refusal = crop::check_words(words, width, height);
     if refusal != 0 {
@@ -99,15 +100,16 @@ pub fn search_words(
     if marks.len() != words.len() || capacity(records) == 0 {
         return refused(6);
     }
-    maxicode::detector::search::search(words, width, height, records, marks)
+    maxicode::detector::search::search(words, width, height, records, marks, ellipse)
 }
 
-/// The search of a crop file, unpacked into `words`.
+/// The search of a crop file, unpacked into `words`, with the ellipse check or without.
 pub fn search_file(
     file: &[u8],
     words: &mut [u64],
     records: &mut [u32],
     marks: &mut [u64],
+    ellipse: bool,
 ) -> Report {
     let refusal = crop::check_file(file);
     if refusal != 0 {
@@ -119,7 +121,7 @@ pub fn search_file(
         return refused(6);
     }
     crops::unpack(file, words);
-    maxicode::detector::search::search(words, width, height, records, marks)
+    maxicode::detector::search::search(words, width, height, records, marks, ellipse)
 }
 
 /// The cells of an unpacked image.

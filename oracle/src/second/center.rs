@@ -3,10 +3,11 @@
 use super::image::{Image, Pixel, WHITE, pixel};
 use super::sines::{Point, truncate, turn_about};
 
-/// The two ends of the walks at one degree.
-struct WalkEnds {
-    left: Point,
-    right: Point,
+/// The two ends of the walks at one degree, and the steps of both together.
+pub(super) struct WalkEnds {
+    pub(super) left: Point,
+    pub(super) right: Point,
+    pub(super) length: u32,
 }
 
 /// One look of a walk: true when the walk goes on, being inside the words and on white.
@@ -18,8 +19,8 @@ fn walk_goes_on(image: &mut Image, center: Pixel, x: u32, degree: u32) -> bool {
     image.get(place.x, place.y) == WHITE
 }
 
-/// `find_width_at_degree`: both walks, for their ends and their reads.
-fn walk(image: &mut Image, center: Pixel, degree: u32) -> WalkEnds {
+/// `find_width_at_degree`: both walks, for their ends, their length and their reads.
+pub(super) fn walk(image: &mut Image, center: Pixel, degree: u32) -> WalkEnds {
     let mut left = center.x;
     while walk_goes_on(image, center, left, degree) && left > 0 {
         left -= 1;
@@ -31,6 +32,7 @@ fn walk(image: &mut Image, center: Pixel, degree: u32) -> WalkEnds {
     WalkEnds {
         left: turn_about(center, pixel(left, center.y), degree),
         right: turn_about(center, pixel(right, center.y), degree),
+        length: (center.x - left) + (right - center.x - 1),
     }
 }
 

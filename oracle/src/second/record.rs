@@ -14,6 +14,7 @@ fn outcome_number(outcome: Outcome) -> u32 {
         Outcome::Turned(_) => 1,
         Outcome::NoTurn => 0,
         Outcome::LostCenter => 2,
+        Outcome::Ellipse => 3,
     }
 }
 
@@ -23,6 +24,7 @@ fn rotation_of(outcome: Outcome) -> u32 {
         Outcome::Turned(degree) => degree,
         Outcome::NoTurn => 0,
         Outcome::LostCenter => 0,
+        Outcome::Ellipse => 0,
     }
 }
 
@@ -31,7 +33,7 @@ pub(super) fn class_of(rotation: u32) -> u32 {
     (rotation + 45) / 90 % 4
 }
 
-/// A corner of the plain box, turned if there is a turn.
+/// A corner of the plain box, turned if there is a turn; an ellipse has none.
 fn corner_of(orientation: &Orientation, corner: Pixel) -> Point {
     match orientation.outcome {
         Outcome::Turned(degree) => turn_about(orientation.center, corner, degree),
@@ -39,14 +41,19 @@ fn corner_of(orientation: &Orientation, corner: Pixel) -> Point {
             x: corner.x as f32,
             y: corner.y as f32,
         },
+        Outcome::Ellipse => Point { x: 0.0, y: 0.0 },
     }
 }
 
-/// The forty words of a record.
-pub(super) fn record_of(image: &mut Image, candidate: &Candidate) -> [u32; WORDS_PER_RECORD] {
+/// The forty words of a record, with the ellipse check or without.
+pub(super) fn record_of(
+    image: &mut Image,
+    candidate: &Candidate,
+    ellipse: bool,
+) -> [u32; WORDS_PER_RECORD] {
     let size = plain_size(candidate.radius);
     let boundary = boundary_of(candidate.center, &size, image.width, image.height);
-    let orientation = orientation_of(image, candidate);
+    let orientation = orientation_of(image, candidate, ellipse);
     let rotation = rotation_of(orientation.outcome);
     let mut record = [0; WORDS_PER_RECORD];
     record[0] = candidate.center.x;

@@ -18,6 +18,7 @@ pub fn search_words(
     height: u32,
     records: &mut [u32],
     marks: &mut [u64],
+    ellipse: bool,
 ) -> Report {
     let refusal = check_words(words, width, height);
     if refusal != 0 {
@@ -29,7 +30,7 @@ pub fn search_words(
     if records.len() < WORDS_PER_RECORD {
         return refused(6);
     }
-    search(words, width, height, records, marks)
+    search(words, width, height, records, marks, ellipse)
 }
 
 /// Crop file and answer numbers, all of them, for an image given as a file.
@@ -38,6 +39,7 @@ pub fn search_file(
     words: &mut [u64],
     records: &mut [u32],
     marks: &mut [u64],
+    ellipse: bool,
 ) -> Report {
     let refusal = check(file);
     if refusal != 0 {
@@ -57,7 +59,7 @@ pub fn search_file(
         return refused(6);
     }
     unpack(&file[HEADER_BYTES..], header.width, words);
-    search(words, header.width, header.height, records, marks)
+    search(words, header.width, header.height, records, marks, ellipse)
 }
 
 /// Crop file and answer numbers, without a search: a file unpacked.
@@ -91,13 +93,14 @@ pub(super) fn capacity_of(record_words: usize) -> usize {
     (record_words / WORDS_PER_RECORD).min(MOST_RECORDS)
 }
 
-/// The search of an accepted image, on marks that start clear.
+/// The search of an accepted image, on marks that start clear, with the ellipse check or without.
 pub(super) fn search(
     words: &[u64],
     width: u32,
     height: u32,
     records: &mut [u32],
     marks: &mut [u64],
+    ellipse: bool,
 ) -> Report {
     marks.fill(0);
     let capacity = capacity_of(records.len());
@@ -114,7 +117,7 @@ pub(super) fn search(
     } else {
         rank(keep_within_deviation(&candidates))
     };
-    write_records(&mut image, &ranked, capacity, records);
+    write_records(&mut image, &ranked, capacity, records, ellipse);
     Report {
         answer: answer_of(overfull, candidates.len(), ranked.len()),
         found: candidates.len() as u32,
@@ -143,11 +146,17 @@ pub(super) fn count_marks(marks: &[u64]) -> u32 {
 }
 
 /// The kept records, and zeros up to the capacity.
-fn write_records(image: &mut Image, ranked: &[Candidate], capacity: usize, records: &mut [u32]) {
+fn write_records(
+    image: &mut Image,
+    ranked: &[Candidate],
+    capacity: usize,
+    records: &mut [u32],
+    ellipse: bool,
+) {
     records[..capacity * WORDS_PER_RECORD].fill(0);
     for (index, candidate) in ranked.iter().enumerate() {
         let start = index * WORDS_PER_RECORD;
-        let record = record_of(image, candidate);
+        let record = record_of(image, candidate, ellipse);
         records[start..start + WORDS_PER_RECORD].copy_from_slice(&record);
     }
 }

@@ -2,6 +2,7 @@
 
 mod canvas;
 mod cells;
+mod ellipse;
 mod entries;
 mod steps;
 mod turns;

@@ -2,6 +2,7 @@
 
 use super::boundary::{Boundary, boundary_of, scaled_size};
 use super::center::corrected_center;
+use super::ellipse::is_ellipse;
 use super::image::{BLACK, Image, Pixel, WHITE, pixel};
 use super::sines::{truncate, turn_about};
 use super::sweep::Candidate;
@@ -35,12 +36,13 @@ enum Sight {
     Outside,
 }
 
-/// How the search for a turn ended.
+/// How the search for a turn ended; an ellipse is not searched for one.
 #[derive(Clone, Copy, Debug, PartialEq, Eq)]
 pub(super) enum Outcome {
     Turned(u32),
     NoTurn,
     LostCenter,
+    Ellipse,
 }
 
 /// The outcome with the scale number and the last centre inside the image.
@@ -99,8 +101,24 @@ fn turn_at_scale(image: &mut Image, center: Pixel, radius: u32, scale: f64) -> O
     None
 }
 
+/// `box_symbol`: the ellipse check if the option is on, from the centre as found, then the turn.
+pub(super) fn orientation_of(
+    image: &mut Image,
+    candidate: &Candidate,
+    ellipse: bool,
+) -> Orientation {
+    if ellipse && is_ellipse(image, candidate.center) {
+        return Orientation {
+            outcome: Outcome::Ellipse,
+            scale: 0,
+            center: candidate.center,
+        };
+    }
+    turned(image, candidate)
+}
+
 /// `box_symbol`'s loop over the scales, each from the centre before it.
-pub(super) fn orientation_of(image: &mut Image, candidate: &Candidate) -> Orientation {
+fn turned(image: &mut Image, candidate: &Candidate) -> Orientation {
     let mut center = candidate.center;
     for (index, scale) in SCALES.into_iter().enumerate() {
         let number = index as u32 + 1;

@@ -1,5 +1,6 @@
 //! Holds the proved finder against the judge on generated crops, each with every capacity and one length more, as a file and as
-//! words, and its cells and those of a crop for cells. A crop that shows a difference is made smaller and written out.
+//! words, with the ellipse check and without, and its cells and those of a crop for cells. A crop that shows a difference is made
+//! smaller and written out.
 //!
 //! usage: compare [--seed S] [--count N] [--seconds N] [--threads N] [--guards 0]
 
@@ -36,8 +37,11 @@ struct Worker {
 /// What is asked of a crop.
 #[derive(Clone, Copy)]
 enum What {
-    /// A search with so many record words.
-    Search(usize),
+    /// A search with so many record words, with the ellipse check or without.
+    Search {
+        records: usize,
+        ellipse: bool,
+    },
     Cells,
 }
 
@@ -53,7 +57,7 @@ impl How {
     fn call<'a>(self, crop: &'a Crop, file: &'a [u8]) -> Call<'a> {
         let file = self.as_file.then_some(file);
         match self.what {
-            What::Search(records) => Call::fitting(crop, file, records),
+            What::Search { records, ellipse } => Call::fitting(crop, file, records, ellipse),
             What::Cells => Call::cells(crop, file),
         }
     }
@@ -77,25 +81,27 @@ impl Worker {
         self.searches(seed, &crop) && self.cells(seed, &crop) && self.cells(seed, &filling)
     }
 
-    /// A crop searched with all its lengths.
+    /// A crop searched with all its lengths; the entries and the settings of the option take turns.
     fn searches(&mut self, seed: u64, crop: &Crop) -> bool {
         let file = crop.file();
         let mut random = Random::new(seed ^ 0x6c65_6e67_7468);
-        let mut as_file = random.one_in(2);
+        let mut turn = random.below(4);
         let mut found = 0;
         for (capacity, name) in CAPACITIES.into_iter().chain([(0, "odd")]) {
             let records = match capacity {
                 0 => cases::odd_length(&mut random, crop, found),
                 _ => cases::length_of(&mut random, capacity),
             };
-            let what = What::Search(records);
+            let (as_file, ellipse) = (turn % 2 == 0, turn % 4 < 2);
+            let what = What::Search { records, ellipse };
             let Some(report) = self.compare(seed, crop, &file, How { what, as_file }) else {
                 return false;
             };
             self.tally.search(&report, self.trial.records());
+            self.tally.option(ellipse);
             self.tally.add("capacities", name);
             found = report.found;
-            as_file = !as_file;
+            turn += 1;
         }
         true
     }
@@ -123,7 +129,9 @@ impl Worker {
             }
             Err(what) => {
                 let asked = match how.what {
-                    What::Search(records) => format!("{records} record words"),
+                    What::Search { records, ellipse } => {
+                        format!("{records} record words, ellipse check {ellipse}")
+                    }
                     What::Cells => "cells".to_string(),
                 };
                 println!("difference: seed {seed}, {}, {asked}: {what}", crop.family);

@@ -48,7 +48,10 @@ impl Worker {
         let mut passes = |call: &Call, spoilt: usize| match trial.compare(call) {
             Ok(report) => {
                 match call.asked {
-                    Asked::Search { .. } => tally.search(&report, trial.records()),
+                    Asked::Search { ellipse, .. } => {
+                        tally.search(&report, trial.records());
+                        tally.option(ellipse);
+                    }
                     Asked::Cells { .. } => tally.cells(report.answer),
                 }
                 tally.add("spoilt conditions", SPOILT[spoilt]);

@@ -1,5 +1,6 @@
-//! The two-run test: every seed is a crop, searched before and after all its unmarked pixels are changed. As a control, one marked
-//! pixel is flipped in some tries; the last line counts how often that changed what the search gives.
+//! The two-run test: every seed is a crop, searched before and after all its unmarked pixels are changed, both times with the
+//! ellipse check or both times without. As a control, one marked pixel is flipped in some tries; the last line counts how often that
+//! changed what the search gives.
 //!
 //! usage: pairs [--seed S] [--count N] [--seconds N] [--threads N] [--guards 0]
 
@@ -44,6 +45,7 @@ impl Worker {
             crop: &crop,
             records: cases::any_length(&mut random, &crop),
             as_file: random.one_in(2),
+            ellipse: random.one_in(2),
         };
         let change = random.pick(&CHANGES);
         let before = random.clone();
@@ -51,8 +53,8 @@ impl Worker {
         self.count(given, change);
         if let Some(what) = difference {
             println!(
-                "difference: seed {seed}, {}, unmarked pixels {change}: {what}",
-                crop.family
+                "difference: seed {seed}, {}, ellipse check {}, unmarked pixels {change}: {what}",
+                crop.family, given.ellipse
             );
             self.tally.differences += 1;
             self.write_out(seed, given, change, &before);
@@ -72,6 +74,7 @@ impl Worker {
         self.tally.add("changes", change);
         self.tally
             .add("entries", if given.as_file { "file" } else { "words" });
+        self.tally.option(given.ellipse);
     }
 
     fn control(&mut self, given: Given, random: &mut Random) {

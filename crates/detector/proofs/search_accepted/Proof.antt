@@ -1,6 +1,7 @@
 -- `detector::search_accepted` meets its contract: the marks cleared, the search run from there, and the marks counted. Assumes nothing.
 use Prim.Native.Nat.{ℕ}
 use native.Mathlib.Omega.{arith}
+use mathlib.Core.Bool.{Bool}
 use mathlib.Core.List.{List}
 use mathlib.Core.Path.{_≡_, ap, ap₂, _∙_}
 use borrow.Author.Needs.{needs}
@@ -26,21 +27,23 @@ room-of : {records : List ℕ} {capacity : ℕ} → capacity ≡ capacityOf (len
 room-of is = record { few = omega arith; most = omega (arith, is); held = omega (arith, is) }
 
 -- the marks cleared, the search run from there, and the marks counted
-accepted-by : (shape : Shape) {words marks cleared records marks′ records′ : List ℕ} {capacity n : ℕ} {c : Counts} {r : Report} → Image shape words marks
+accepted-by : (shape : Shape) (ellipse : Bool) {words marks cleared records marks′ records′ : List ℕ} {capacity n : ℕ} {c : Counts} {r : Report}
+    → Image shape words marks
     → cleared ≡ zeros (length marks) → capacity ≡ capacityOf (length records)
-    → Sought (searchAt shape capacity) capacity words cleared records c marks′ records′ → n ≡ onesOf marks′ → r ≡ reportOf c n
-    → run r records′ marks′ ≡ acceptedRun shape words records
+    → Sought (searchAt (record { shape = shape; capacity = capacity; ellipse = ellipse })) capacity words cleared records c marks′ records′
+    → n ≡ onesOf marks′ → r ≡ reportOf c n
+    → run r records′ marks′ ≡ acceptedRun shape words records ellipse
 unfolding acceptedRun
-accepted-by shape {words} {marks} {cleared} {records} {marks′} {records′} {capacity} {n} {c} {r} image clear room sought counted made =
-    let full : Sought (steps shape (length records)) (capacityOf (length records)) words cleared records c marks′ records′ = rw room at sought in
-    let marked : marks′ ≡ marksOf (steps shape (length records)) words (zeros (length words)) =
-    full .marked ∙ ap (marksOf (steps shape (length records)) words) (clear ∙ ap zeros (image .sized)) in
+accepted-by shape ellipse {words} {marks} {cleared} {records} {marks′} {records′} {capacity} {n} {c} {r} image clear room sought counted made =
+    let full : Sought (steps shape (length records) ellipse) (capacityOf (length records)) words cleared records c marks′ records′ = rw room at sought in
+    let marked : marks′ ≡ marksOf (steps shape (length records) ellipse) words (zeros (length words)) =
+    full .marked ∙ ap (marksOf (steps shape (length records) ellipse) words) (clear ∙ ap zeros (image .sized)) in
     let report : r
-    ≡ reportOf ((valueOf (steps shape (length records)) words) .counts)
-    (onesOf (marksOf (steps shape (length records)) words (zeros (length words)))) =
+    ≡ reportOf ((valueOf (steps shape (length records) ellipse) words) .counts)
+    (onesOf (marksOf (steps shape (length records) ellipse) words (zeros (length words)))) =
     made ∙ ap₂ reportOf (full .counts) (counted ∙ ap onesOf marked) in
     ap₂ (λ (x : Report) (l : List ℕ). run x l marks′) report (full .stored)
-    ∙ ap (run _ (laidOut (capacityOf (length records)) ((valueOf (steps shape (length records)) words) .records) records)) marked
+    ∙ ap (run _ (laidOut (capacityOf (length records)) ((valueOf (steps shape (length records) ellipse) words) .records) records)) marked
 
 clear-requires : tie.Need-clear-requires
 clear-requires c κs = search needs

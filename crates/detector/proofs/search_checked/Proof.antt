@@ -1,6 +1,6 @@
 -- `detector::search_checked` meets its contract: one lemma for each return. Assumes nothing.
 use Prim.Native.Nat.{ℕ, _≤_}
-use mathlib.Core.Bool.{_||_}
+use mathlib.Core.Bool.{Bool, _||_}
 use mathlib.Core.List.{List}
 use mathlib.Core.Path.{_≡_, sym, ap, ap₂, _∙_}
 use borrow.Author.Needs.{needs}
@@ -21,12 +21,12 @@ use Rattle.detector.specs.declared.Report.{Report}
 use Rattle.detector.proofs.search_checked.Statement.{statement}
 use Rattle.detector.proofs.search_checked.Tie as tie
 
-module _ (file words records marks : List ℕ) {c : Checked} (checks : Checks file c) {number : ℕ}
+module _ (file words records marks : List ℕ) (ellipse : Bool) {c : Checked} (checks : Checks file c) {number : ℕ}
     (is : number ≡ orSix (c .answer) (misfit (length words) (size (c .shape)) || noRoom (size (c .shape)) (length marks) (length records))) where
   number-is : number ≡ fileRefusal file (length words) (length marks) (length records)
   number-is = file-refusal-by checks (length words) (length marks) (length records) is
 
-  file-refused : {r : Report} → (number ≡ 0 → ⊥) → r ≡ refusedReport number → filed words (run r records marks) ≡ fileRun file words records marks
+  file-refused : {r : Report} → (number ≡ 0 → ⊥) → r ≡ refusedReport number → filed words (run r records marks) ≡ fileRun file words records marks ellipse
   unfolding fileRun
   file-refused some made =
       ap (λ (x : Report). filed words (run x records marks)) made ∙ ap (λ (n : ℕ). filed words (run (refusedReport n) records marks)) number-is
@@ -51,12 +51,12 @@ module _ (file words records marks : List ℕ) {c : Checked} (checks : Checks fi
           let long : length words′ ≡ size (c .shape) = ap length stored ∙ length-unpacked file (c .shape) in
           record { limits = ready .image .limits; stored = long; sized = ready .image .sized ∙ ready .image .stored ∙ sym long }
 
-      file-searched : {left : Run} → left ≡ acceptedRun (c .shape) words′ records → filed words′ left ≡ fileRun file words records marks
+      file-searched : {left : Run} → left ≡ acceptedRun (c .shape) words′ records ellipse → filed words′ left ≡ fileRun file words records marks ellipse
       unfolding fileRun
       file-searched searched =
           let shape-is : c .shape ≡ fileShape file = ready-shape checks words marks records is none in
           let words-are : words′ ≡ image file = stored ∙ ap (unpacked file) shape-is in
-          ap₂ filed words-are (searched ∙ ap₂ (λ (s : Shape) (l : List ℕ). acceptedRun s l records) shape-is words-are)
+          ap₂ filed words-are (searched ∙ ap₂ (λ (s : Shape) (l : List ℕ). acceptedRun s l records ellipse) shape-is words-are)
           ∙ is-accepted _ _ (sym number-is ∙ none)
 
 file-refusal-requires : tie.Need-file-refusal-requires

@@ -1,5 +1,6 @@
 -- `detector::search_words` meets its contract: one lemma for each return. Assumes nothing.
 use Prim.Native.Nat.{ℕ, _≤_}
+use mathlib.Core.Bool.{Bool}
 use mathlib.Core.List.{List}
 use mathlib.Core.Path.{_≡_, sym, ap, _∙_}
 use borrow.Author.Needs.{needs}
@@ -15,8 +16,9 @@ use Rattle.detector.specs.declared.Report.{Report}
 use Rattle.detector.proofs.search_words.Statement.{statement}
 use Rattle.detector.proofs.search_words.Tie as tie
 
-module _ (words : List ℕ) (w h : ℕ) (records marks : List ℕ) {number : ℕ} (checked : number ≡ wordsRefusal words w h (length marks) (length records)) where
-  words-refused : {r : Report} → (number ≡ 0 → ⊥) → r ≡ refusedReport number → run r records marks ≡ wordsRun words w h records marks
+module _ (words : List ℕ) (w h : ℕ) (records marks : List ℕ) (ellipse : Bool) {number : ℕ}
+    (checked : number ≡ wordsRefusal words w h (length marks) (length records)) where
+  words-refused : {r : Report} → (number ≡ 0 → ⊥) → r ≡ refusedReport number → run r records marks ≡ wordsRun words w h records marks ellipse
   unfolding wordsRun
   words-refused some made =
       ap (λ (x : Report). run x records marks) made ∙ ap (λ (n : ℕ). run (refusedReport n) records marks) checked ∙ is-refused _ _ λ e. some (checked ∙ e)
@@ -31,9 +33,9 @@ module _ (words : List ℕ) (w h : ℕ) (records marks : List ℕ) {number : ℕ
     words-room : 40 ≤ length records
     words-room = ok .room
 
-    words-searched : {left : Run} → left ≡ acceptedRun shape words records → left ≡ wordsRun words w h records marks
+    words-searched : {left : Run} → left ≡ acceptedRun shape words records ellipse → left ≡ wordsRun words w h records marks ellipse
     unfolding wordsRun
-    words-searched searched = searched ∙ ap (λ (s : Shape). acceptedRun s words records) is ∙ is-accepted _ _ (sym checked ∙ none)
+    words-searched searched = searched ∙ ap (λ (s : Shape). acceptedRun s words records ellipse) is ∙ is-accepted _ _ (sym checked ∙ none)
 
 words-refusal-requires : tie.Need-words-refusal-requires
 words-refusal-requires c κs = search needs
@@ -42,7 +44,7 @@ refused-requires : tie.Need-refused-requires
 refused-requires c κs = search needs
 
 returns : tie.Need-returns
-returns c = words-refused _ _ _ _ _ (c .before .before .words-refusal .ensures) (c .before .if1 .taken) (c .refused .ensures)
+returns c = words-refused _ _ _ _ _ _ (c .before .before .words-refusal .ensures) (c .before .if1 .taken) (c .refused .ensures)
 
 shape-of-requires : tie.Need-shape-of-requires
 shape-of-requires c κs = search needs

@@ -1,6 +1,7 @@
--- `detector_box::box_symbol` meets its contract: the scales' run, and what the other calls ensure. Assumes nothing.
+-- `detector_box::box_symbol` meets its contract: the turn's run, and what the other calls ensure. Assumes nothing.
 use Prim.Native.Nat.{ℕ, _<_}
 use native.Mathlib.Omega.{arith}
+use mathlib.Core.Bool.{Bool}
 use mathlib.Core.List.{List}
 use mathlib.Core.Path.{_≡_}
 use lib.Ieee.{Float}
@@ -15,10 +16,10 @@ use Rattle.detector_boundary.specs.BoundaryClauses.{Placed}
 use Rattle.detector_circle.specs.declared.Circle.{Circle}
 use Rattle.detector_outcome.specs.declared.Turn.{Turn}
 use Rattle.detector_outcome.specs.Outcomes.{classOf}
-use Rattle.detector_turn.specs.Scales.{tryScales}
 use Rattle.detector_turn.specs.ScalesClauses.{LentCircle}
-use Rattle.detector_turn.specs.ScalesLaws.{centered-of, ended}
-use Rattle.detector_box.specs.Boxes.{symbolAt}
+use Rattle.detector_turn.specs.ScalesLaws.{centered-of}
+use Rattle.detector_box.specs.Boxes.{turnAt, symbolAt}
+use Rattle.detector_box.specs.BoxesLaws.{turn-ended}
 use Rattle.detector_corners.specs.Corners.{cornersOf}
 use borrow.Author.Needs.{needs}
 use Rattle.detector_box.proofs.box_symbol.Statement.{statement}
@@ -28,22 +29,22 @@ placed : {shape : Shape} {words marks : List ℕ} {circle : Circle} {table : Lis
     → b ≡ plainBoundary shape (circle .center) (circle .radius) → Placed b
 placed lent e = rw e (plain-placed (centered-of lent) (lent .least) (lent .most))
 
-low : {shape : Shape} {words marks after : List ℕ} {circle : Circle} {table : List Float} {turn : Turn} → LentCircle shape words marks circle table
-    → Ran (tryScales shape circle) words marks turn after → turn .degree < 360
-low {shape} {circle = circle} lent ran =
-    let last = always-ran (ended shape circle (lent .lent .inside)) ran in
-    omega (arith, last .low)
+low : {shape : Shape} {words marks after : List ℕ} {circle : Circle} {table : List Float} {turn : Turn} (ellipse : Bool)
+    → LentCircle shape words marks circle table → Ran (turnAt ellipse shape circle) words marks turn after → turn .degree < 360
+low {shape} {circle = circle} ellipse lent ran =
+    let ended = always-ran (turn-ended ellipse shape circle (lent .lent .inside)) ran in
+    omega (arith, ended .low)
 
-boxed : {words marks after : List ℕ} (shape : Shape) (circle : Circle) {b : Boundary} {turn : Turn} {corners : List Point} {class : ℕ}
+boxed : {words marks after : List ℕ} (ellipse : Bool) (shape : Shape) (circle : Circle) {b : Boundary} {turn : Turn} {corners : List Point} {class : ℕ}
     → b ≡ plainBoundary shape (circle .center) (circle .radius)
-    → Ran (tryScales shape circle) words marks turn after
+    → Ran (turnAt ellipse shape circle) words marks turn after
     → corners ≡ cornersOf b turn → class ≡ classOf turn
-    → Ran (symbolAt shape circle) words marks (record { turn = turn; corners = corners; class = class }) after
+    → Ran (symbolAt ellipse shape circle) words marks (record { turn = turn; corners = corners; class = class }) after
 unfolding symbolAt
-boxed shape circle e ran f g = ran-bind _ ran (ran-is (rw (f, g, e)))
+boxed ellipse shape circle e ran f g = ran-bind _ ran (ran-is (rw (f, g, e)))
 
-try-scales-requires : tie.Need-try-scales-requires
-try-scales-requires c κs = search needs
+turn-of-requires : tie.Need-turn-of-requires
+turn-of-requires c κs = search needs
 
 plain-boundary-requires : tie.Need-plain-boundary-requires
 plain-boundary-requires c κs = search (needs, centered-of)
@@ -64,7 +65,7 @@ pub box-symbol-spec : {M : Type 1} → statement M
 box-symbol-spec =
     tie.close
     (tie.spec
-    try-scales-requires
+    turn-of-requires
     plain-boundary-requires
     corners-of-requires
     class-of-requires

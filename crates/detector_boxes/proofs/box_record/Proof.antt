@@ -1,6 +1,7 @@
 -- `detector_boxes::box_record` meets its contract. Assumes nothing.
 use Prim.Native.Nat.{ℕ}
 use mathlib.Core.Path.{_≡_}
+use mathlib.Core.Bool.{Bool}
 use mathlib.Core.List.{List}
 use borrow.Author.Needs.{needs}
 use lib.Ieee.{Float}
@@ -12,6 +13,7 @@ use Rattle.sines.specs.Sines.{sines}
 use Rattle.records.specs.Records.{Record}
 use Rattle.detector_turn.specs.ScalesClauses.{LentCircle}
 use Rattle.detector_box.specs.Boxes.{symbolAt}
+use Rattle.detector_box.specs.BoxesClauses.{FlankedWhen}
 use Rattle.detector_symbol.specs.Symbols.{withSymbol}
 use Rattle.detector_symbol.specs.declared.Symbol.{Symbol}
 use Rattle.detector_boxes.specs.Boxing.{circleOf, boxed}
@@ -19,19 +21,23 @@ use Rattle.detector_boxes.specs.BoxingClauses.{Boxable}
 use Rattle.detector_boxes.proofs.box_record.Statement.{statement}
 use Rattle.detector_boxes.proofs.box_record.Tie as tie
 
-lent : {shape : Shape} {words marks : List ℕ} {table : List Float} {r : Record} → Image shape words marks → Boxable shape r → table ≡ sines
-    → LentCircle shape words marks (circleOf r) table
-lent image boxable same = record {
-  lent = record { image = image; inside = boxable .inside; table-is = same };
-  least = boxable .least;
-  most = boxable .most;
-}
+lent : {shape : Shape} {words marks : List ℕ} {table : List Float} {r : Record} (ellipse : Bool) → Image shape words marks → Boxable shape words r
+    → table ≡ sines → LentCircle shape words marks (circleOf r) table
+    × FlankedWhen ellipse shape words (circleOf r .center)
+lent ellipse image boxable same = (
+  record {
+    lent = record { image = image; inside = boxable .inside; table-is = same };
+    least = boxable .least;
+    most = boxable .most;
+  },
+  record { flanked = λ _. boxable .flanked },
+)
 
-made : {words m₀ m₁ : List ℕ} (shape : Shape) (r : Record) {out : Record} {symbol : Symbol}
-    → Ran (symbolAt shape (circleOf r)) words m₀ symbol m₁ → out ≡ withSymbol r symbol
-    → Ran (boxed shape r) words m₀ out m₁
+made : {words m₀ m₁ : List ℕ} (ellipse : Bool) (shape : Shape) (r : Record) {out : Record} {symbol : Symbol}
+    → Ran (symbolAt ellipse shape (circleOf r)) words m₀ symbol m₁ → out ≡ withSymbol r symbol
+    → Ran (boxed ellipse shape r) words m₀ out m₁
 unfolding boxed
-made shape r ran stored = ran-bind _ ran (ran-is stored)
+made ellipse shape r ran stored = ran-bind _ ran (ran-is stored)
 
 array-read-x : tie.Need-array-read-x
 array-read-x c = search needs

@@ -4,6 +4,7 @@ use Prim.Native.Nat.{ℕ, _+_, _-_, _≤_, _<_, suc}
 use native.Mathlib.Nat.{add-zero}
 use native.Mathlib.Numerals.{add-one}
 use native.Mathlib.Omega.{arith}
+use mathlib.Core.Bool.{Bool}
 use mathlib.Core.Path.{_≡_, refl, sym, ap, _∙_}
 use mathlib.Core.List.{List, [], _∷_, _++_}
 use borrow.Author.Needs.{needs}
@@ -23,20 +24,20 @@ use Rattle.detector_boxes.proofs.OneByOne.{boxedFrom, all-at-once}
 use Rattle.detector_boxes.proofs.box_records.Statement.{statement}
 use Rattle.detector_boxes.proofs.box_records.Tie as tie
 
-record Boxing (words marks₀ records₀ : List ℕ) (shape : Shape) (kept : ℕ) (marks records : List ℕ) (i : ℕ) : Type 0 where
+record Boxing (words marks₀ records₀ : List ℕ) (shape : Shape) (kept : ℕ) (ellipse : Bool) (marks records : List ℕ) (i : ℕ) : Type 0 where
   few : i ≤ kept
   image : Image shape words marks
-  each : Each (Boxable shape) (rows kept records₀)
+  each : Each (Boxable shape words) (rows kept records₀)
   beside : Beside kept records₀ records
   back : drop i (rows kept records) ≡ drop i (rows kept records₀)
   resumes : Resumes words
-      (boxedFrom shape (take i (rows kept records)) (drop i (rows kept records₀))) marks
-      (boxedFrom shape [] (rows kept records₀)) marks₀
+      (boxedFrom ellipse shape (take i (rows kept records)) (drop i (rows kept records₀))) marks
+      (boxedFrom ellipse shape [] (rows kept records₀)) marks₀
 
-begins : {words marks records : List ℕ} {shape : Shape} {kept : ℕ} → Image shape words marks
-    → AllBoxable shape kept records
-    → Boxing words marks records shape kept marks records 0
-begins {records = records} {kept = kept} image all = record {
+begins : {words marks records : List ℕ} {shape : Shape} {kept : ℕ} (ellipse : Bool) → Image shape words marks
+    → AllBoxable shape words kept records
+    → Boxing words marks records shape kept ellipse marks records 0
+begins {records = records} {kept = kept} ellipse image all = record {
   few = omega arith;
   image = image;
   each = all .each;
@@ -45,8 +46,8 @@ begins {records = records} {kept = kept} image all = record {
   resumes = resumes-start;
 }
 
-module _ {words marks₀ records₀ marks records : List ℕ} {shape : Shape} {kept i : ℕ}
-    (so-far : Boxing words marks₀ records₀ shape kept marks records i) where
+module _ {words marks₀ records₀ marks records : List ℕ} {shape : Shape} {kept i : ℕ} {ellipse : Bool}
+    (so-far : Boxing words marks₀ records₀ shape kept ellipse marks records i) where
   module _ (h : i < kept) where
     inside : i < length (rows kept records₀)
     inside = omega (arith, length-rows kept records₀)
@@ -61,13 +62,13 @@ module _ {words marks₀ records₀ marks records : List ℕ} {shape : Shape} {k
         ∙ getD-drop i (rows kept records₀) 0 []
         ∙ ap (λ (k : ℕ). getD (rows kept records₀) k []) (add-zero i)
 
-    fit : {r : Record} → r ≡ get records i → Boxable shape r
-    fit e = rw (e ∙ unmoved) (each-at (Boxable shape) [] (rows kept records₀) i (so-far .each) inside)
+    fit : {r : Record} → r ≡ get records i → Boxable shape words r
+    fit e = rw (e ∙ unmoved) (each-at (Boxable shape words) [] (rows kept records₀) i (so-far .each) inside)
 
     -- a record gets its symbol
-    onward : {r b : Record} {marks′ records′ : List ℕ} → r ≡ get records i → Ran (boxed shape r) words marks b marks′ → length b ≡ 40
+    onward : {r b : Record} {marks′ records′ : List ℕ} → r ≡ get records i → Ran (boxed ellipse shape r) words marks b marks′ → length b ≡ 40
         → length marks′ ≡ length marks → records′ ≡ put records i b → length records′ ≡ length records
-        → Boxing words marks₀ records₀ shape kept marks′ records′ (i + 1)
+        → Boxing words marks₀ records₀ shape kept ellipse marks′ records′ (i + 1)
     unfolding boxedFrom
     onward {r} {b} {marks′} {records′} e ran whole long stored same = record {
       few = omega arith;
@@ -94,7 +95,7 @@ module _ {words marks₀ records₀ marks records : List ℕ} {shape : Shape} {k
             ap (take (i + 1)) (now .records) ∙ ap (λ (k : ℕ). take k (set (rows kept records) i b)) (add-one i)
             ∙ take-suc-set (rows kept records) i b (omega (arith, length-rows kept records))
 
-  over : kept ≤ i → Boxed (boxedAll shape (rows kept records₀)) kept words marks₀ records₀ marks records
+  over : kept ≤ i → Boxed (boxedAll ellipse shape (rows kept records₀)) kept words marks₀ records₀ marks records
   unfolding boxedFrom
   over h = record {
     stored = record { records = all ∙ end .result; rest = so-far .beside .rest };
@@ -109,14 +110,14 @@ module _ {words marks₀ records₀ marks records : List ℕ} {shape : Shape} {k
           let last : i ≡ length (rows kept records₀) = omega (arith, length-rows kept records₀, so-far .few) in
           ap (λ (k : ℕ). drop k (rows kept records₀)) last ∙ drop-length (rows kept records₀)
 
-      end : Ran (boxedAll shape (rows kept records₀)) words marks₀ (take i (rows kept records)) marks
-      end = all-at-once shape (rows kept records₀) (resumes-end (ran-done _) (rw none at (so-far .resumes)))
+      end : Ran (boxedAll ellipse shape (rows kept records₀)) words marks₀ (take i (rows kept records)) marks
+      end = all-at-once ellipse shape (rows kept records₀) (resumes-end (ran-done _) (rw none at (so-far .resumes)))
 
 abbrev Inv-loop : tie.InvT-loop
-Inv-loop words marks₀ records₀ shape kept table i₀ marks records i = Boxing words marks₀ records₀ shape kept marks records i
+Inv-loop words marks₀ records₀ shape kept table ellipse i₀ marks records i = Boxing words marks₀ records₀ shape kept ellipse marks records i
 
 abbrev μ-loop : tie.MeasureT-loop
-μ-loop words marks₀ records₀ shape kept table i₀ marks records i = kept - i
+μ-loop words marks₀ records₀ shape kept table ellipse i₀ marks records i = kept - i
 
 loop-holds : tie.Need-loop-holds Inv-loop μ-loop
 loop-holds c = search begins

@@ -6,13 +6,14 @@ use mathlib.Core.Bool.{true, false}
 use mathlib.Core.List.{List}
 use borrow.Author.Needs.{needs}
 use borrow.Author.Tests.{not-true, not-false}
+use Rattle.reads.specs.Bits.{bitAt}
 use Rattle.reads.specs.RunsClauses.{Ran}
-use Rattle.reads.specs.RunsLaws.{ran-is, ran-bind, ran-then, ran-else, always-ran}
+use Rattle.reads.specs.RunsLaws.{ran-is, ran-bind, ran-then, ran-else, on-ran}
 use Rattle.bit_matrix.specs.declared.Shape.{Shape}
 use Rattle.bit_matrix.specs.ShapeClauses.{Limits}
 use Rattle.detector_rows.specs.RowsClauses.{nextBullseye}
 use Rattle.detector_first_window.specs.FirstWindowLaws.{Closed}
-use Rattle.detector_rows.specs.RowsLaws.{always-closed}
+use Rattle.detector_rows.specs.RowsLaws.{closed-on}
 use Rattle.detector_window.specs.declared.Bullseye.{Bullseye}
 use Rattle.detector_columns.specs.ColumnsClauses.{verifyBullseyeVertical}
 use Rattle.detector_columns.specs.declared.Verified.{Verified}
@@ -29,8 +30,8 @@ module _ {words marks m₁ : List ℕ} (shape : Shape) (row column : ℕ) {eye :
   ends e made = ran-bind _ ran (ran-else _ _ e (ran-is made))
 
   module _ (limits : Limits shape) (at : Searchable shape row column) (found : eye .found ≡ true) where
-    closed : Closed column (shape .width) eye
-    closed = always-ran (always-closed shape row column) ran found
+    closed : Closed shape (bitAt words) row column eye
+    closed = on-ran (closed-on shape row column (bitAt words)) ran found
 
     -- the radius fits left of the centre
     radius-left : eye .radius ≤ eye .center

@@ -11,8 +11,9 @@ use borrow.Author.Tests.{lt-ltb, le-ltb}
 use lib.Dec.{ltb}
 use lib.ListN.{length, drop}
 use Rattle.reads.specs.Reads.{Reads, done}
+use Rattle.reads.specs.Bits.{bitAt}
 use Rattle.reads.specs.RunsClauses.{Ran, Resumes}
-use Rattle.reads.specs.RunsLaws.{ran-done, always-ran, resumes-start, resumes-step, resumes-then, resumes-else, resumes-end}
+use Rattle.reads.specs.RunsLaws.{ran-done, on-ran, resumes-start, resumes-step, resumes-then, resumes-else, resumes-end}
 use Rattle.records.specs.Records.{Record, rows}
 use Rattle.records.specs.RecordsLaws.{length-rows}
 use Rattle.bit_matrix.specs.declared.Shape.{Shape}
@@ -69,8 +70,8 @@ module _ {words marks₀ records₀ marks records : List ℕ} {shape : Shape} {c
   -- a search, and its candidate appended
   module _ {s : Searched} {marks′ : List ℕ} (ran : Ran (searchFrom shape row column) words marks s marks′)
       {count′ : ℕ} {records′ : List ℕ} (stored : Stored capacity records (after (rows count records) s) count′ records′) where
-    fits : FitSearch shape column s
-    fits = always-ran (search-fit shape row column (so-far .image .limits) (so-far .at)) ran
+    fits : FitSearch shape (bitAt words) column s
+    fits = on-ran (search-fit shape (bitAt words) row column (so-far .image .limits) (so-far .at)) ran
 
     more : count ≤ count′
     more = omega (arith, stored .counted, after-more (rows count records) s, length-rows count records)

@@ -9,14 +9,14 @@ use Rattle.bit_matrix.specs.declared.Shape.{Shape}
 use Rattle.rxing_result_point.specs.declared.Point.{Point}
 use Rattle.rxing_result_point.specs.declared.PointU.{PointU}
 use Rattle.rxing_result_point.specs.Points.{rounded}
-use Rattle.detector_walks.specs.declared.Ends.{Ends}
+use Rattle.detector_walks.specs.declared.Width.{Width}
 use Rattle.detector_walks.specs.Walks.{findWidthAtDegree}
 use Rattle.detector_walks.specs.WalksLaws.{lent-on}
 use Rattle.detector_center.specs.Center.{findCenter, corrected}
 use Rattle.detector_center.proofs.corrected_center.Statement.{statement}
 use Rattle.detector_center.proofs.corrected_center.Tie as tie
 
-centered : {words m₀ m₁ m₂ : List ℕ} (shape : Shape) (center : PointU) {first second : Ends} {p : Point} {r : PointU}
+centered : {words m₀ m₁ m₂ : List ℕ} (shape : Shape) (center : PointU) {first second : Width} {p : Point} {r : PointU}
     → Ran (findWidthAtDegree shape center 7) words m₀ first m₁ → Ran (findWidthAtDegree shape center 97) words m₁ second m₂
     → r ≡ rounded p → p ≡ findCenter (first .left) (first .right) (second .left)
     → Ran (corrected shape center) words m₀ r m₂

@@ -5,17 +5,20 @@ use lib.Ieee.{Float}
 use Rattle.rxing_result_point.specs.declared.Point.{Point}
 use Rattle.detector_boundary.specs.declared.Boundary.{Boundary}
 use Rattle.detector_outcome.specs.declared.Outcome.{Outcome}
-use Rattle.detector_outcome.specs.declared.Outcome.the-variants.{Turned, NoTurn, LostCentre}
+use Rattle.detector_outcome.specs.declared.Outcome.the-variants.{Turned, NoTurn, LostCentre, Ellipse}
 use Rattle.detector_outcome.specs.declared.Turn.{Turn}
 use Rattle.detector_outcome.specs.Outcomes.{ifOutcome}
-use Rattle.detector_corners.specs.Corners.{plainCorners, turnedCorners, cornersOf}
+use Rattle.detector_corners.specs.Corners.{plainCorners, turnedCorners, noCorners, cornersOf}
 use borrow.Author.Needs.{needs}
 use Rattle.detector_corners.proofs.corners_of.Statement.{statement}
 use Rattle.detector_corners.proofs.corners_of.Tie as tie
 
+abbrev noBoundary : Boundary
+noBoundary = record { left = 0; right = 0; top = 0; bottom = 0 }
+
 module _ (b : Boundary) (turn : Turn) where
   abbrev cornersAt : Outcome → List Point
-  cornersAt outcome = ifOutcome (λ rotation. turnedCorners b (turn .center) (turn .degree)) (plainCorners b) (plainCorners b) outcome
+  cornersAt outcome = ifOutcome (λ rotation. turnedCorners b (turn .center) (turn .degree)) (plainCorners b) (plainCorners b) noCorners outcome
 
   by-outcome : {r : List Point} {outcome : Outcome} → turn .outcome ≡ outcome → r ≡ cornersAt outcome → r ≡ cornersOf b turn
   unfolding cornersOf
@@ -29,6 +32,10 @@ module _ (b : Boundary) (turn : Turn) where
 
   lost : {r : List Point} → turn .outcome ≡ LostCentre → r ≡ plainCorners b → r ≡ cornersOf b turn
   lost e f = by-outcome e f
+
+  none : {r : List Point} → turn .outcome ≡ Ellipse → r ≡ plainCorners noBoundary → r ≡ cornersOf b turn
+  unfolding plainCorners
+  none e f = by-outcome e f
 
 enum-told : tie.Need-enum-told
 enum-told c = search needs
@@ -48,6 +55,12 @@ enum-told-3 c = search needs
 plain-corners-requires-2 : tie.Need-plain-corners-requires-2
 plain-corners-requires-2 c κs = search needs
 
+enum-told-4 : tie.Need-enum-told-4
+enum-told-4 c = search needs
+
+plain-corners-requires-3 : tie.Need-plain-corners-requires-3
+plain-corners-requires-3 c κs = search needs
+
 returns : tie.Need-returns
 returns c = search turned
 
@@ -56,6 +69,9 @@ returns-2 c = search plain
 
 returns-3 : tie.Need-returns-3
 returns-3 c = search lost
+
+returns-4 : tie.Need-returns-4
+returns-4 c = search none
 
 pub corners-of-spec : {M : Type 1} → statement M
 corners-of-spec =
@@ -67,6 +83,9 @@ corners-of-spec =
     plain-corners-requires
     enum-told-3
     plain-corners-requires-2
+    enum-told-4
+    plain-corners-requires-3
     returns
     returns-2
-    returns-3)
+    returns-3
+    returns-4)

@@ -3,7 +3,7 @@ use Prim.Native.Nat.{ℕ}
 use mathlib.Core.Path.{_≡_, sym, ap, _∙_}
 use lib.Ieee.{Float}
 use Rattle.detector_outcome.specs.declared.Outcome.{Outcome}
-use Rattle.detector_outcome.specs.declared.Outcome.the-variants.{Turned, NoTurn, LostCentre}
+use Rattle.detector_outcome.specs.declared.Outcome.the-variants.{Turned, NoTurn, LostCentre, Ellipse}
 use Rattle.detector_outcome.specs.declared.Turn.{Turn}
 use Rattle.detector_outcome.specs.Outcomes.{ifOutcome, quarterOf, classOf}
 use borrow.Author.Needs.{needs}
@@ -12,7 +12,7 @@ use Rattle.detector_outcome.proofs.class_of.Tie as tie
 
 module _ (turn : Turn) where
   abbrev classAt : Outcome → ℕ
-  classAt outcome = ifOutcome (λ rotation. quarterOf (turn .degree)) 0 0 outcome
+  classAt outcome = ifOutcome (λ rotation. quarterOf (turn .degree)) 0 0 0 outcome
 
   turned : {r : ℕ} {rotation : Float} → turn .outcome ≡ Turned rotation → r ≡ quarterOf (turn .degree) → r ≡ classOf turn
   turned e f = f ∙ sym (ap classAt e)
@@ -22,6 +22,9 @@ module _ (turn : Turn) where
 
   lost : turn .outcome ≡ LostCentre → 0 ≡ classOf turn
   lost e = sym (ap classAt e)
+
+  ellipse : turn .outcome ≡ Ellipse → 0 ≡ classOf turn
+  ellipse e = sym (ap classAt e)
 
 enum-told : tie.Need-enum-told
 enum-told c = search needs
@@ -35,6 +38,9 @@ enum-told-2 c = search needs
 enum-told-3 : tie.Need-enum-told-3
 enum-told-3 c = search needs
 
+enum-told-4 : tie.Need-enum-told-4
+enum-told-4 c = search needs
+
 returns : tie.Need-returns
 returns c = search turned
 
@@ -44,5 +50,8 @@ returns-2 c = search plain
 returns-3 : tie.Need-returns-3
 returns-3 c = search lost
 
+returns-4 : tie.Need-returns-4
+returns-4 c = search ellipse
+
 pub class-of-spec : {M : Type 1} → statement M
-class-of-spec = tie.close (tie.spec enum-told quarter-of-requires enum-told-2 enum-told-3 returns returns-2 returns-3)
+class-of-spec = tie.close (tie.spec enum-told quarter-of-requires enum-told-2 enum-told-3 enum-told-4 returns returns-2 returns-3 returns-4)

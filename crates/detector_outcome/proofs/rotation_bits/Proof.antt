@@ -24,6 +24,9 @@ enum-told c = search needs
 enum-told-2 : tie.Need-enum-told-2
 enum-told-2 c = search needs
 
+enum-told-3 : tie.Need-enum-told-3
+enum-told-3 c = search needs
+
 returns : tie.Need-returns
 returns c = search turned
 
@@ -33,6 +36,9 @@ returns-2 c = search needs
 returns-3 : tie.Need-returns-3
 returns-3 c = search needs
 
+returns-4 : tie.Need-returns-4
+returns-4 c = search needs
+
 pub rotation-bits-spec : {M : Type 1} → statement M
 rotation-bits-spec =
     tie.close
@@ -41,6 +47,8 @@ rotation-bits-spec =
     bits-of-f32-requires
     enum-told
     enum-told-2
+    enum-told-3
     returns
     returns-2
-    returns-3)
+    returns-3
+    returns-4)

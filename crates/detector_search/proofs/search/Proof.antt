@@ -37,8 +37,8 @@ returns-2 c =
     let boxing = c .before .before .before .before in
     let judging = boxing .before .before .before .before .before .before .before in
     let sweeping = judging .before .before .before .before .before .before in
-    let start = sweeping .before .before .before .before .before .before in
-    some-kept (start .pre .0) (start .pre .1) (sweeping .find-concentric-circles .ensures) (judging .verdict .ensures) (search needs) (search needs)
+    let start = sweeping .before .before .before .before .before .before .before in
+    some-kept _ (start .pre .0) (start .pre .1) (sweeping .find-concentric-circles .ensures) (judging .verdict .ensures) (search needs) (search needs)
     (boxing .box-kept .ensures)
 
 pub search-spec : {M : Type 1} → statement M

@@ -12,12 +12,11 @@ use borrow.Author.Needs.{needs}
 use lib.ListN.{length}
 use Rattle.reads.specs.Reads.{Reads, done}
 use Rattle.reads.specs.RunsClauses.{Ran, Resumes}
-use Rattle.reads.specs.RunsLaws.{ran-is, resumes-start, resumes-step, resumes-then, resumes-else, resumes-end}
+use Rattle.reads.specs.RunsLaws.{ran-done, ran-is, resumes-start, resumes-step, resumes-then, resumes-else, resumes-end}
 use Rattle.bit_matrix.specs.declared.Shape.{Shape}
 use Rattle.bit_matrix.specs.ShapeClauses.{Limits, Inside}
 use Rattle.sines.specs.declared.Angle.{Angle}
 use Rattle.sines.specs.Laws.{scaled}
-use Rattle.rxing_result_point.specs.declared.Point.{Point}
 use Rattle.rxing_result_point.specs.declared.PointU.{PointU}
 use Rattle.detector_walks.specs.Walks.{walkPoint, whitePoint, leftFrom, rightFrom, firstColumn, walk}
 use Rattle.detector_walks.specs.WalksClauses.{OfDegree}
@@ -28,7 +27,7 @@ use Rattle.detector_walks.proofs.walk.Tie as tie
 
 module _ (words : List ℕ) (shape : Shape) (center : PointU) (angle : Angle) where
   -- what is left in column x, and how many steps at most
-  abbrev rest : Bool → ℕ → Reads Point
+  abbrev rest : Bool → ℕ → Reads ℕ
   rest true x = leftFrom shape center angle x
   rest false x = rightFrom shape center angle (suc (center .x + 2 ^ 20 - x)) x
 
@@ -58,12 +57,11 @@ module _ (words : List ℕ) (shape : Shape) (center : PointU) (angle : Angle) wh
       (ran : Ran (whitePoint shape (walkPoint center angle x)) words marks white after) where
     -- to the left
     module _ (walking : Walking marks₀ true marks x) where
-      ends-at-0 : {p : Point} → p ≡ walkPoint center angle x → x ≡ 0 → Ran (walk shape center angle true) words marks₀ p after
+      ends-at-0 : x ≡ 0 → Ran (walk shape center angle true) words marks₀ x after
       unfolding leftFrom
-      ends-at-0 is none = resumes-end (ran-is (rw none at is)) (resumes-step _ (rw none at ran) (rw none at (walking .resumes)))
+      ends-at-0 none = resumes-end (ran-is none) (resumes-step _ (rw none at ran) (rw none at (walking .resumes)))
 
-      step : x ≢ 0 → Resumes words (cond white (leftFrom shape center angle (x - 1)) (done (walkPoint center angle x))) after
-          (walk shape center angle true) marks₀
+      step : x ≢ 0 → Resumes words (cond white (leftFrom shape center angle (x - 1)) (done x)) after (walk shape center angle true) marks₀
       unfolding leftFrom
       step some =
           let back : x ≡ suc (x - 1) = omega arith in
@@ -90,20 +88,18 @@ module _ (words : List ℕ) (shape : Shape) (center : PointU) (angle : Angle) wh
           }
 
     -- either way, by what the code tests
-    stops : (left : Bool) → Walking marks₀ left marks x → {p : Point} → p ≡ walkPoint center angle x → white ≡ false
-        → Ran (walk shape center angle left) words marks₀ p after
+    stops : (left : Bool) → Walking marks₀ left marks x → white ≡ false → Ran (walk shape center angle left) words marks₀ x after
     unfolding rightFrom
-    stops false walking is e = resumes-end (ran-is is) (resumes-else _ _ e (resumes-step _ ran (walking .resumes)))
-    stops true walking {p} is e = go (ℕ-discrete x 0)
+    stops false walking e = resumes-end (ran-done x) (resumes-else _ _ e (resumes-step _ ran (walking .resumes)))
+    stops true walking e = go (ℕ-discrete x 0)
       where
-        go : Dec (x ≡ 0) → Ran (walk shape center angle true) words marks₀ p after
-        go (yes none) = ends-at-0 walking is none
-        go (no some) = resumes-end (ran-is is) (resumes-else _ _ e (step walking some))
+        go : Dec (x ≡ 0) → Ran (walk shape center angle true) words marks₀ x after
+        go (yes none) = ends-at-0 walking none
+        go (no some) = resumes-end (ran-done x) (resumes-else _ _ e (step walking some))
 
-    stops-at-0 : (left : Bool) → left ≡ true → Walking marks₀ left marks x → {p : Point} → p ≡ walkPoint center angle x → x ≡ 0
-        → Ran (walk shape center angle left) words marks₀ p after
-    stops-at-0 true l walking is none = ends-at-0 walking is none
-    stops-at-0 false l walking is none = absurd (true≢false (sym l))
+    stops-at-0 : (left : Bool) → left ≡ true → Walking marks₀ left marks x → x ≡ 0 → Ran (walk shape center angle left) words marks₀ x after
+    stops-at-0 true l walking none = ends-at-0 walking none
+    stops-at-0 false l walking none = absurd (true≢false (sym l))
 
     onward-left : (left : Bool) → left ≡ true → Walking marks₀ left marks x → x ≢ 0 → white ≡ true → length after ≡ length marks
         → Walking marks₀ left after (x - 1)
@@ -143,9 +139,6 @@ loop-holds c = search begins
 goes-on-requires : tie.Need-goes-on-requires Inv-loop μ-loop
 goes-on-requires c κs = search needs
 
-walk-point-requires : tie.Need-walk-point-requires Inv-loop μ-loop
-walk-point-requires c κs = search needs
-
 same-length : tie.Need-same-length Inv-loop μ-loop
 same-length c = search needs
 
@@ -170,9 +163,6 @@ loop-less-2 c = search fewer-right
 loop-again-2 : tie.Need-loop-again-2 Inv-loop μ-loop
 loop-again-2 c = search onward-right
 
-walk-point-requires-2 : tie.Need-walk-point-requires-2 Inv-loop μ-loop
-walk-point-requires-2 c κs = search needs
-
 same-length-2 : tie.Need-same-length-2 Inv-loop μ-loop
 same-length-2 c = search needs
 
@@ -188,7 +178,6 @@ walk-spec =
     first-column-requires
     loop-holds
     goes-on-requires
-    walk-point-requires
     same-length
     returns
     sub-x
@@ -197,6 +186,5 @@ walk-spec =
     add-x
     loop-less-2
     loop-again-2
-    walk-point-requires-2
     same-length-2
     returns-2)

@@ -2,6 +2,7 @@
 -- kept than 400. Assumes nothing.
 use Prim.Native.Nat.{ℕ, zero, suc, _≤_}
 use native.Mathlib.Omega.{arith}
+use mathlib.Core.Bool.{Bool, false}
 use mathlib.Core.List.{List, _∷_}
 use mathlib.Core.Path.{_≡_, refl, ap, _∙_}
 use lib.ListN.{length, take, replicate}
@@ -17,10 +18,10 @@ use Rattle.find.proofs.put_lines.Statement.{statement}
 use Rattle.find.proofs.put_lines.Tie as tie
 
 -- the buffer has room for 400 records, and no more are kept
-kept-few : (file words records marks : List ℕ) {words′ records′ marks′ : List ℕ} {r : Report}
-    → filed words′ (run r records′ marks′) ≡ fileRun file words records marks → length records ≡ 16000 → r .kept ≤ 400
-kept-few file words records marks searched long =
-    omega (arith, ap (λ (x : FileRun). x .run .report .kept) searched, file-few file words records marks)
+kept-few : (file words records marks : List ℕ) (ellipse : Bool) {words′ records′ marks′ : List ℕ} {r : Report}
+    → filed words′ (run r records′ marks′) ≡ fileRun file words records marks ellipse → length records ≡ 16000 → r .kept ≤ 400
+kept-few file words records marks ellipse searched long =
+    omega (arith, ap (λ (x : FileRun). x .run .report .kept) searched, file-few file words records marks ellipse)
 
 -- the start of a buffer of zeros
 take-zeros : (n m : ℕ) → n ≤ m → take n (replicate m 0) ≡ replicate {A = ℕ} n 0
@@ -30,12 +31,12 @@ take-zeros (suc n) (suc m) h = ap (λ (l : List ℕ). 0 ∷ l) (take-zeros n m (
 
 -- the text of a search with these buffers lent is what is printed
 puts-printed : (file : List ℕ) {n : ℕ} (lent : List ℕ) {words′ records′ marks′ : List ℕ} {r : Report} {next : ℕ} {before after : List ℕ}
-    → n ≡ lentWords file → lent ≡ replicate n 0 → filed words′ (run r records′ marks′) ≡ fileRun file lent (replicate 16000 0) lent
+    → n ≡ lentWords file → lent ≡ replicate n 0 → filed words′ (run r records′ marks′) ≡ fileRun file lent (replicate 16000 0) lent false
     → Puts (textOf (run r records′ marks′)) 0 before next after → Puts (printed file) 0 before next after
 unfolding printed
 puts-printed file lent size zeros searched puts =
     let are : lent ≡ replicate (lentWords file) 0 = zeros ∙ ap (λ (k : ℕ). replicate k 0) size in
-    puts-as (ap (λ (x : FileRun). textOf (x .run)) (searched ∙ ap (λ (l : List ℕ). fileRun file l (replicate 16000 0) l) are)) puts
+    puts-as (ap (λ (x : FileRun). textOf (x .run)) (searched ∙ ap (λ (l : List ℕ). fileRun file l (replicate 16000 0) l false) are)) puts
 
 zeros : List ℕ
 zeros = replicate 8000 0
@@ -73,7 +74,7 @@ slice-aggregate-put-run c = search needs
 put-run-requires : tie.Need-put-run-requires
 put-run-requires c κs =
     let searched = c .before .before .before .before .before in
-    let few = kept-few _ _ _ _ (searched .search-checked .ensures) (search needs) in
+    let few = kept-few _ _ _ _ _ (searched .search-checked .ensures) (search needs) in
     (search needs, search needs)
 
 same-length : tie.Need-same-length

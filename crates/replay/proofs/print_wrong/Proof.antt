@@ -5,10 +5,10 @@ use Rattle.replay.proofs.print_wrong.Statement.{statement}
 use Rattle.replay.proofs.print_wrong.Tie as tie
 
 abbrev Inv-loop : tie.InvT-loop
-Inv-loop pack at end₀ t4 t5 end = (at ≤ end) × (end ≤ at + 24)
+Inv-loop pack at end₀ t4 t5 end = (at ≤ end) × (end ≤ at + 28)
 
 abbrev μ-loop : tie.MeasureT-loop
-μ-loop pack at end₀ t4 t5 end = at + 24 - end
+μ-loop pack at end₀ t4 t5 end = at + 28 - end
 
 loop-holds : tie.Need-loop-holds Inv-loop μ-loop
 loop-holds c = search needs

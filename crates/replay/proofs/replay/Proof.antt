@@ -1,4 +1,4 @@
--- `replay::replay` is safe and ends: each vector has 56 bytes or more, and the counts stay below the bytes passed. Assumes nothing.
+-- `replay::replay` is safe and ends: each vector has 64 bytes or more, and the counts stay below the bytes passed. Assumes nothing.
 use Prim.Native.Nat.{_-_, _≤_}
 use lib.ListN.{length}
 use borrow.Author.Needs.{needs}

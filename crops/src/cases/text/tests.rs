@@ -13,9 +13,15 @@ fn unpack(file: &[u8], words: &mut [u64]) -> u32 {
     4
 }
 
-fn search_file(file: &[u8], words: &mut [u64], records: &mut [u32], marks: &mut [u64]) -> Report {
+fn search_file(
+    file: &[u8],
+    words: &mut [u64],
+    records: &mut [u32],
+    marks: &mut [u64],
+    ellipse: bool,
+) -> Report {
     words.fill(7);
-    search_words(words, file.len() as u32, 9, records, marks)
+    search_words(words, file.len() as u32, 9, records, marks, ellipse)
 }
 
 fn search_words(
@@ -24,8 +30,9 @@ fn search_words(
     height: u32,
     records: &mut [u32],
     marks: &mut [u64],
+    ellipse: bool,
 ) -> Report {
-    records.fill(1);
+    records.fill(1 + u32::from(ellipse));
     marks.fill(2);
     Report {
         answer: words.iter().map(|word| word.count_ones()).sum(),
@@ -103,8 +110,19 @@ fn what_is_seen() {
 }
 
 #[test]
+fn the_option_is_handed_over() {
+    for (option, word) in [("", 1), (" ellipse=0", 1), (" ellipse=1", 2)] {
+        let records = format!("records=1:{:016x}", hash_u32(&[word]));
+        for image in ["file=1 unpack=1", "words=1"] {
+            let line = format!("search {image} marks=1 records=1{option}");
+            assert!(seen(&line).ends_with(&records), "{line}");
+        }
+    }
+}
+
+#[test]
 fn bytes_are_a5_before() {
-    fn nothing(_: &[u8], _: &mut [u64], _: &mut [u32], _: &mut [u64]) -> Report {
+    fn nothing(_: &[u8], _: &mut [u64], _: &mut [u32], _: &mut [u64], _: bool) -> Report {
         Report::default()
     }
     let entries = Entries {

@@ -66,12 +66,17 @@ impl Canvas {
     }
 
     pub fn search(&mut self, records: &mut [u32]) -> Report {
+        self.search_with(records, false)
+    }
+
+    pub fn search_with(&mut self, records: &mut [u32], ellipse: bool) -> Report {
         search_words(
             &self.words,
             self.width,
             self.height,
             records,
             &mut self.marks,
+            ellipse,
         )
     }
 

@@ -15,7 +15,7 @@ fn sample_line() {
     let mut words = vec![7; 33];
     let mut marks = vec![9; 33];
     let mut records = vec![5; 400 * WORDS_PER_RECORD];
-    let report = search_file(&file, &mut words, &mut records, &mut marks);
+    let report = search_file(&file, &mut words, &mut records, &mut marks, false);
     let expected = Report {
         answer: 8,
         found: 0,
@@ -60,11 +60,13 @@ fn refused_files_leave_buffers() {
         let mut words = vec![7; words];
         let mut marks = vec![9; marks];
         let mut records = vec![5; records];
-        let report = search_file(&file, &mut words, &mut records, &mut marks);
-        assert_eq!(report, refused(6));
-        assert!(words.iter().all(|&word| word == 7));
-        assert!(marks.iter().all(|&word| word == 9));
-        assert!(records.iter().all(|&word| word == 5));
+        for ellipse in [false, true] {
+            let report = search_file(&file, &mut words, &mut records, &mut marks, ellipse);
+            assert_eq!(report, refused(6));
+            assert!(words.iter().all(|&word| word == 7));
+            assert!(marks.iter().all(|&word| word == 9));
+            assert!(records.iter().all(|&word| word == 5));
+        }
     }
 }
 
@@ -83,16 +85,16 @@ fn word_refusals_in_order() {
         (33, 34, 4),
     ];
     for (width, height, answer) in sides {
-        let report = search_words(&words, width, height, &mut records, &mut marks);
+        let report = search_words(&words, width, height, &mut records, &mut marks, true);
         assert_eq!(report, refused(answer));
     }
     words[32] = 1 << 33;
-    let report = search_words(&words, 33, 33, &mut records, &mut marks[..5]);
+    let report = search_words(&words, 33, 33, &mut records, &mut marks[..5], false);
     assert_eq!(report, refused(5));
     words[32] = 1 << 32;
-    let report = search_words(&words, 33, 33, &mut records, &mut marks[..5]);
+    let report = search_words(&words, 33, 33, &mut records, &mut marks[..5], false);
     assert_eq!(report, refused(6));
-    let report = search_words(&words, 33, 33, &mut records[..39], &mut marks);
+    let report = search_words(&words, 33, 33, &mut records[..39], &mut marks, false);
     assert_eq!(report, refused(6));
     assert!(marks.iter().all(|&word| word == 9));
     assert!(records.iter().all(|&word| word == 5));
@@ -146,7 +148,13 @@ fn file_and_words_agree_on_rings() {
     let mut words = vec![7; canvas.words.len()];
     let mut marks = vec![9; canvas.words.len()];
     let mut file_records = vec![3; 50 * WORDS_PER_RECORD];
-    let file_report = search_file(&canvas.file(), &mut words, &mut file_records, &mut marks);
+    let file_report = search_file(
+        &canvas.file(),
+        &mut words,
+        &mut file_records,
+        &mut marks,
+        false,
+    );
     assert_eq!(file_report, report);
     assert_eq!(words, canvas.words);
     assert_eq!(marks, canvas.marks);

@@ -44,7 +44,7 @@ fn a_lost_center_keeps_the_last_one_inside() {
             let mut canvas = Canvas::white(64, 64);
             let candidate = candidate_at(x, y);
             let first = corrected_center(&mut canvas.image(), candidate.center);
-            let orientation = orientation_of(&mut canvas.image(), &candidate);
+            let orientation = orientation_of(&mut canvas.image(), &candidate, false);
             if !canvas.image().holds(first) {
                 seen += 1;
                 assert_eq!(orientation.outcome, Outcome::LostCenter);

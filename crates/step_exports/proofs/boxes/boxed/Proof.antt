@@ -1,4 +1,5 @@
 -- `step_exports::boxes::boxed` meets its contract. Assumes nothing.
+use mathlib.Core.Bool.{false≢true}
 use borrow.Author.Needs.{needs}
 use Rattle.step_exports.proofs.Running.{ran-through}
 use Rattle.step_exports.proofs.boxes.boxed.Statement.{statement}
@@ -8,7 +9,7 @@ table-requires : tie.Need-table-requires
 table-requires c κs = search needs
 
 box-symbol-requires : tie.Need-box-symbol-requires
-box-symbol-requires c κs = search needs
+box-symbol-requires c κs = (search needs, record { flanked = λ on. absurd (false≢true on) })
 
 symbol-fields-requires : tie.Need-symbol-fields-requires
 symbol-fields-requires c κs = search needs
