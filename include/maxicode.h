@@ -86,7 +86,7 @@ uint32_t maxicode_unpack(const uint8_t *file, size_t file_len, uint64_t *words, 
  * the number of whole records lent, MAXICODE_MOST_CANDIDATES at most. The marks, as many words as the image has, get a one for each bit
  * that was read. Once searched, whole records from the kept ones to the capacity are zeros; words beyond are left as they were.
  * `ellipse` is 0, or any other number to have each kept record checked for an ellipse: one gets MAXICODE_OUTCOME_ELLIPSE and no box.
- * The check reads more, and at worst a search takes a hundred times longer. */
+ * The check reads more: a search of a label mostly takes up to half as long again, of some crops far longer. */
 struct maxicode_report maxicode_search_words(const uint64_t *words, size_t words_len, uint32_t width, uint32_t height,
                                              uint32_t *records, size_t records_len, uint64_t *marks, size_t marks_len,
                                              uint32_t ellipse);

@@ -41,7 +41,7 @@ macro_rules! ellipse_help {
     () => {
         "\
 --ellipse  checks each kept record for an ellipse first: one has outcome 3, class 0, no turn, and zeros for a box. The check reads more
-           pixels; mostly a search takes up to twice as long, at worst a hundred times
+           pixels: a search of a label mostly takes up to half as long again, of some crops far longer
 "
     };
 }

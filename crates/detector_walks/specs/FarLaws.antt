@@ -110,7 +110,7 @@ other-far true false a b c n N small C h =
 widen : (m a de dd : ℕ) → m * 1 ≡ a * de → m * dd ≡ a * (de * dd)
 widen m a de dd h = ap (λ (z : ℕ). z * dd) (sym (mul-one m) ∙ h) ∙ mul-assoc a de dd
 
-cut-mul : (a b c : ℕ) → (a - b) * c ≡ a * c - b * c
+pub cut-mul : (a b c : ℕ) → (a - b) * c ≡ a * c - b * c
 cut-mul a b c = mul-comm (a - b) c ∙ mul-sub c a b ∙ ap (λ (z : ℕ). z - c * b) (mul-comm c a) ∙ ap (λ (z : ℕ). a * c - z) (mul-comm c b)
 
 -- ---- whole numbers: a difference of two is exact, and a product with zero is zero
@@ -173,7 +173,7 @@ add-zero-far s t (fin w m e) (fin w' k d) n N small p q =
     (omega (arith, spread n (m * up e) (down e) (down d) (p .1))))
 
 -- a zero taken away is one added, of the other sign
-neg-zero : (t : Bool) (z : Float) → HasValue z t 0 1 → HasValue (neg z) (not t) 0 1
+pub neg-zero : (t : Bool) (z : Float) → HasValue z t 0 1 → HasValue (neg z) (not t) 0 1
 unfolding neg
 neg-zero t nan q = absurd q
 neg-zero t (inf w) q = absurd q

@@ -73,10 +73,24 @@ flat-pass = tt
 flat-of : (m n : ℕ) → T (not (eqb m 0) || eqb n (2 ^ 29)) → m ≡ 0 → n ≡ 2 ^ 29
 flat-of m n t e = eqb→eq n (2 ^ 29) (subst (λ (k : ℕ). T (not (eqb k 0) || eqb n (2 ^ 29))) e t)
 
+-- ---- neither is above 1 in size
+mostAt : ℕ → Bool
+mostAt d = leb (natAbs (scaledSine d)) (2 ^ 29)
+
+most-pass : T (every mostAt 360)
+unfolding mostAt sineOf scaled ofBits
+most-pass = tt
+
+sine-most : (degree : ℕ) → natAbs (scaledSine degree) ≤ 2 ^ 29
+unfolding mostAt
+sine-most degree = rw (← sine-mod degree) (leb→le _ (2 ^ 29) (every-at mostAt 360 most-pass (degree % 360) (mod-lt degree (lit< tt))))
+
 -- ---- at every degree
 pub record Rules (angle : Angle) : Type 0 where
   pub sine : HasValue (angle .sin) (negative (scaled (angle .sin))) (natAbs (scaled (angle .sin))) (2 ^ 29)
   pub cosine : HasValue (angle .cos) (negative (scaled (angle .cos))) (natAbs (scaled (angle .cos))) (2 ^ 29)
+  pub sine-unit : natAbs (scaled (angle .sin)) ≤ 2 ^ 29
+  pub cosine-unit : natAbs (scaled (angle .cos)) ≤ 2 ^ 29
   pub flat : natAbs (scaled (angle .sin)) ≡ 0 → natAbs (scaled (angle .cos)) ≡ 2 ^ 29
   pub few : stepsRight noRows angle ≤ 2 ^ 18
 
@@ -89,6 +103,8 @@ module _ (degree : ℕ) where
   rules-at = record {
     sine = sine-rules degree .whole;
     cosine = sine-rules (degree + 90) .whole;
+    sine-unit = sine-most degree;
+    cosine-unit = sine-most (degree + 90);
     flat = rw (← sine-mod degree, ← sine-mod-add degree 90) (flat-of _ _ (every-at flatAt 360 flat-pass one (mod-lt degree (lit< tt))));
     few = rw (← sine-mod degree) (leb→le _ (2 ^ 18) (every-at fewAt 360 few-pass one (mod-lt degree (lit< tt))));
   }

@@ -29,8 +29,9 @@ fn is_white(words: &[u64], marks: &mut [u64], shape: Shape, x: u32, y: u32) -> b
     !bit_matrix::get(words, marks, shape, x, y)
 }
 
-// Whether the walk goes on from column x. The operations are those of `get_point`, in its order; written out, so that what the centre alone decides
-// can be taken out of the loop.
+// Whether the walk goes on from column x. The operations are those of `get_point`, in its order, without the products with the distance from the
+// centre's row, which is zero; written out, so that what the centre alone decides can be taken out of the loop. Up to column 2 ^ 21 a coordinate
+// is small enough for the cast without tests.
 fn goes_on(
     words: &[u64],
     marks: &mut [u64],
@@ -39,7 +40,7 @@ fn goes_on(
     angle: Angle,
     x: u32,
 ) -> bool
-    requires { ⌜ Image shape (now words) (now marks) × Inside shape (center .x) (center .y) × (x ≤ 2 ^ 24) ⌝ }
+    requires { ⌜ Image shape (now words) (now marks) × Inside shape (center .x) (center .y) × (x ≤ 2 ^ 21) × OfDegree angle ⌝ }
     ensures { λ r. ⌜ Ran (whitePoint shape (walkPoint center angle x)) (now (words .entry)) (now (marks .entry)) r (now (marks .exit)) ⌝ }
 {
     let sin = angle.sin;
@@ -47,9 +48,8 @@ fn goes_on(
     let cx = center.x as f32;
     let cy = center.y as f32;
     let u = x as f32 - cx;
-    let v = cy - cy;
-    let column = ieee::abs_f32_to_u32(cos * u - sin * v + cx);
-    let row = ieee::abs_f32_to_u32(sin * u + cos * v + cy);
+    let column = ieee::abs_below_f32_to_u32(cos * u + cx);
+    let row = ieee::abs_below_f32_to_u32(sin * u + cy);
     is_white(words, marks, shape, column, row)
 }
 

@@ -1,4 +1,4 @@
--- Under the bit patterns, abs and the casts. `Numbers`, `Sign`, `Units` and `Fields` serve the square root too.
+-- Under the bit patterns, abs and the casts. `Numbers`, `Sign`, `Units` and `Fields` serve the square root too, `Units` the walks.
 pub mod Numbers
 pub mod Patterns
 pub mod Bounds
@@ -9,3 +9,4 @@ pub mod Double
 pub mod Units
 pub mod Fields
 pub mod WholePart
+pub mod Below

@@ -7,20 +7,21 @@ use native.Mathlib.Nat.{
   lt-of-le-of-lt,
   mul-one,
   mul-assoc,
+  mul-comm,
   mul-right-comm,
   mul-div-cancel,
   mul-lt-mul-of-pos-right,
   lt-of-mul-lt-mul-right,
 }
 use native.Mathlib.Omega.{arith}
-use mathlib.Core.Path.{_≡_, refl, sym, ap, _∙_}
+use mathlib.Core.Path.{_≡_, refl, sym, ap, subst, _∙_}
 use mathlib.Core.Bool.{Bool, true, false, cond}
 use lib.Dec.{T}
 use lib.IntN.{ℤ, pos, negsuc}
 use lib.Pow.{pow-pos, pow-add}
-use lib.Ieee.{Float, nan, inf, fin, Format, prec, emax, low, up, down, fits, hid, top, toBits, ofBits, size}
+use lib.Ieee.{Float, nan, inf, fin, Format, prec, emax, low, up, down, round, fits, hid, top, toBits, ofBits, size}
 use lib.Ieee.Bits.{ofBits-toBits}
-use lib.Ieee.Exact.{HasValue}
+use lib.Ieee.Exact.{HasValue, round-exact}
 use lib.Ieee.Fits.{down-pos}
 use lib.Ieee.Positive.{positive}
 use Rattle.ieee.specs.Units.{unitsOf}
@@ -102,10 +103,22 @@ positive-value f (inf s) t p = absurd p
 positive-value f (fin true m e) t p = absurd p
 positive-value f (fin false m e) t p = exact-units f false m e t
 
+few-units : (f : Format) (m : ℕ) (e : ℤ) (n : ℕ) → Bounds f m e → m * up e * 2 ^ low f ≡ n * down e → n < 2 ^ suc (emax f) * 2 ^ low f
+few-units f m e n b same =
+    lt-of-mul-lt-mul-right (down e)
+    (lt-of-le-of-lt (le-of-eq (sym same))
+    (lt-of-lt-of-le (mul-lt-mul-of-pos-right (b .finite) (pow-pos (low f))) (le-of-eq (mul-right-comm (2 ^ suc (emax f)) (down e) (2 ^ low f)))))
+
 pub under : (f : Format) (x : Float) → T (fits f x) → T (positive x) → unitsOf f x < 2 ^ suc (emax f) * 2 ^ low f
 under f nan t p = absurd p
 under f (inf s) t p = absurd p
-under f (fin s m e) t p =
-    lt-of-mul-lt-mul-right (down e)
-    (lt-of-le-of-lt (le-of-eq (sym (exact-units f s m e t .1)))
-    (lt-of-lt-of-le (mul-lt-mul-of-pos-right (bounds f s m e t .finite) (pow-pos (low f))) (le-of-eq (mul-right-comm (2 ^ suc (emax f)) (down e) (2 ^ low f)))))
+under f (fin s m e) t p = few-units f m e (unitsOf f (fin s m e)) (bounds f s m e t) (exact-units f s m e t .1)
+
+-- ---- a value that fits is rounded to itself, with either sign
+pub round-own : (f : Format) (s z : Bool) (m : ℕ) (e : ℤ) → T (fits f (fin s m e)) → HasValue (round f z (m * up e) (down e)) z (m * up e) (down e)
+round-own f s z m e t =
+    let b = bounds f s m e t in
+    let h = whole-units f m e b in
+    let room : 2 ^ suc (emax f) * 2 ^ low f ≡ 2 ^ (low f + suc (emax f)) = mul-comm (2 ^ suc (emax f)) (2 ^ low f) ∙ sym (pow-add 2 (low f) (suc (emax f))) in
+    round-exact f z (m * up e) (down e) m (h .0) (down-pos e) (b .digits)
+    (subst (λ (n : ℕ). m * 2 ^ (h .0) < n) room (few-units f m e (m * 2 ^ (h .0)) b (h .1))) (h .1)

@@ -15,7 +15,7 @@ use Rattle.ieee.proofs.Fields.{digits, places, InFields, PlainFields, p
 
 -- ---- numbers: a / c is d * 2 ^ h units of 2 ^ -l
 module _ (a c d h l : ℕ) (p : 0 < c) (value : a * 2 ^ l ≡ d * 2 ^ h * c) where
-  below-power : (n w : ℕ) → 2 ^ n ≤ d → a < 2 ^ w * c → n + h < w + l
+  pub below-power : (n w : ℕ) → 2 ^ n ≤ d → a < 2 ^ w * c → n + h < w + l
   below-power n w many less =
       let scaled : d * 2 ^ h * c < 2 ^ w * 2 ^ l * c =
       subst (λ (k : ℕ). k < 2 ^ w * 2 ^ l * c) value
@@ -23,11 +23,12 @@ module _ (a c d h l : ℕ) (p : 0 < c) (value : a * 2 ^ l ≡ d * 2 ^ h * c) whe
       let units : 2 ^ n * 2 ^ h < 2 ^ w * 2 ^ l = lt-of-le-of-lt (mul-le-mul-right (2 ^ h) many) (lt-of-mul-lt-mul-right c scaled) in
       exponent-lt (n + h) (w + l) (rw (pow-add 2 n h, pow-add 2 w l) units)
 
-  above-power : (n : ℕ) → d < 2 ^ n → c ≤ a → l < n + h
-  above-power n few more =
-      let scaled : 2 ^ l * c ≤ d * 2 ^ h * c = le-trans (le-of-eq (mul-comm (2 ^ l) c)) (le-trans (mul-le-mul-right (2 ^ l) more) (le-of-eq value)) in
-      let units : 2 ^ l < 2 ^ n * 2 ^ h = lt-of-le-of-lt (le-of-mul-le-mul-right scaled p) (mul-lt-mul-of-pos-right few (pow-pos h)) in
-      exponent-lt l (n + h) (rw pow-add units)
+  pub above-power : (n v : ℕ) → d < 2 ^ n → 2 ^ v * c ≤ a → v + l < n + h
+  above-power n v few more =
+      let scaled : 2 ^ v * 2 ^ l * c ≤ d * 2 ^ h * c =
+      le-trans (le-of-eq (mul-right-comm (2 ^ v) (2 ^ l) c)) (le-trans (mul-le-mul-right (2 ^ l) more) (le-of-eq value)) in
+      let units : 2 ^ v * 2 ^ l < 2 ^ n * 2 ^ h = lt-of-le-of-lt (le-of-mul-le-mul-right scaled p) (mul-lt-mul-of-pos-right few (pow-pos h)) in
+      exponent-lt (v + l) (n + h) (rw (pow-add 2 v l, pow-add 2 n h) units)
 
   quotient : a / c ≡ d * 2 ^ h / 2 ^ l
   quotient =
@@ -100,11 +101,11 @@ shift x fit l h = go (toBits binary32 x) (toBits binary32 x / 2 ^ 23) refl (all 
 
     go : (b y : ℕ) → b / 2 ^ 23 ≡ y → InFields binary32 x false y (b % 2 ^ 23) → Shift x b
     go b zero e fields = absurd
-        (omega (arith, above-power (num x) (den x) (b % 2 ^ 23) 0 149 (den-pos x) (cross 0 (b % 2 ^ 23) fields) 24 (omega arith) (is .low)))
+        (omega (arith, above-power (num x) (den x) (b % 2 ^ 23) 0 149 (den-pos x) (cross 0 (b % 2 ^ 23) fields) 24 0 (omega arith) (omega (arith, is .low))))
     go b (suc y) e fields =
         let d = 2 ^ 23 + b % 2 ^ 23 in
         let value : num x * 2 ^ 149 ≡ d * 2 ^ y * den x = cross (suc y) (b % 2 ^ 23) fields in
-        let low : 149 < 24 + y = above-power (num x) (den x) d y 149 (den-pos x) value 24 (omega arith) (is .low) in
+        let low : 149 < 24 + y = above-power (num x) (den x) d y 149 (den-pos x) value 24 0 (omega arith) (omega (arith, is .low)) in
         let high : 23 + y < 32 + 149 = below-power (num x) (den x) d y 149 (den-pos x) value 23 32 (omega arith) (is .high) in
         record {
           number = positive-not-nan x (is .above);

@@ -70,6 +70,18 @@ pub fn abs_f32_to_u32(x: f32) -> u32
     }
 }
 
+// Rust's `x.abs() as u32` of an x below 2 ^ 28 in size, with no test on the way. From 2 ^ 28 to
+// 2 ^ 29 an f64's pattern counts 2 ^ -24, which every f32 from 1 / 2 on is a multiple of: so 2 ^ 28
+// more than the size has its whole part in the digits 24 to 51.
+pub fn abs_below_f32_to_u32(x: f32) -> u32
+    requires { ⌜ T (Ieee.lt (abs x) (fin false 1 (pos 28))) ⌝ }
+    ensures { λ r. ⌜ r ≡ Ieee.toUnsigned 32 (abs x) ⌝ }
+{
+    let size = f32::from_bits(f32::to_bits(x) % 0x8000_0000);
+    let bits = f64::to_bits((size as f64) + 268435456.0);
+    (bits / 0x100_0000 % 0x1000_0000) as u32
+}
+
 // Rust's `x as i32`.
 pub fn saturating_f32_to_i32(x: f32) -> i32
     ensures { λ r. ⌜ r ≡ Ieee.toSigned 31 x ⌝ }

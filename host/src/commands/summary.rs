@@ -32,6 +32,7 @@ counted by its first record, the best, which is its label; its other boxes are c
   Outcome         crops by the outcome of their first box, and all boxes by outcome
   Class of crops  crops by class and outcome of their first box
   Class of boxes  all boxes by class and outcome; without a turn the class is 0
+Above them stands a line where the ellipse check was on.
 
 ",
         ellipse_help!(),
@@ -50,14 +51,22 @@ Example: bullseye summary examples/*.crop
     run,
 };
 
+/// What stands above the tables of a search with the ellipse check.
+const CHECKED: &str = "ellipse check: on\n\n";
+
 fn run(args: &[OsString]) -> Result<bool, Problem> {
     let arguments = Arguments::of(args, &[&MANY[..], &["--table", "--ellipse"]].concat())?;
     let mut counts = Counts::default();
-    let good = match arguments.table {
+    let (good, ellipse) = match arguments.table {
         true => of_tables(&arguments, &mut counts)?,
-        false => of_files(&Inputs::of(&arguments)?, arguments.ellipse, &mut counts)?,
+        false => {
+            let inputs = Inputs::of(&arguments)?;
+            let good = of_files(&inputs, arguments.ellipse, &mut counts)?;
+            (good, arguments.ellipse)
+        }
     };
-    print(counts.tables().as_bytes())?;
+    let setting = if ellipse { CHECKED } else { "" };
+    print(format!("{setting}{}", counts.tables()).as_bytes())?;
     Ok(good)
 }
 
@@ -70,8 +79,8 @@ fn of_files(inputs: &Inputs, ellipse: bool, counts: &mut Counts) -> Result<bool,
     })
 }
 
-/// Counts the files of tables, all made with one setting of the ellipse check; true when each was searched.
-fn of_tables(arguments: &Arguments, counts: &mut Counts) -> Result<bool, Problem> {
+/// Counts the files of tables, all made with one setting of the ellipse check. Whether each was searched, and that setting.
+fn of_tables(arguments: &Arguments, counts: &mut Counts) -> Result<(bool, bool), Problem> {
     if arguments.list {
         let both = "--table takes tables, no list of crops";
         return Err(Problem::Usage(both.into()));
@@ -97,5 +106,5 @@ fn of_tables(arguments: &Arguments, counts: &mut Counts) -> Result<bool, Problem
             return Err(Problem::Trouble(of_file(path, table::BOTH_SETTINGS)));
         }
     }
-    Ok(good)
+    Ok((good, setting.unwrap_or_default()))
 }

@@ -57,6 +57,7 @@ pub(super) fn search_image(image: &BitMatrix, records: &mut [u32], ellipse: bool
 pub(super) fn boxed(image: &BitMatrix, circle: &mut Circle) -> Record {
     let found = [circle.center.x, circle.center.y];
     let (corners, rotation) = box_symbol(image, circle).unwrap_or_else(|_| {
+        assert!(circle.trace.ellipse, "no other error");
         circle.trace.outcome = ELLIPSE;
         Default::default()
     });

@@ -196,12 +196,6 @@ impl Prepared {
         Ranking::new(&self.0, candidates)
     }
 
-    /// Whether the widths about a centre are those of an ellipse.
-    #[inline(never)]
-    pub fn detect_ellipse(&self, centre: (u32, u32)) -> bool {
-        circle(&self.0, centre, 0).detect_ellipse().0
-    }
-
     /// The outcome of a circle's box and turn.
     #[inline(never)]
     pub fn box_symbol(&self, centre: (u32, u32), radius: u32) -> u32 {

@@ -37,7 +37,7 @@ module _ (words : List ℕ) (shape : Shape) (center : PointU) (angle : Angle) wh
 
   record Walking (marks₀ : List ℕ) (left : Bool) (marks : List ℕ) (x : ℕ) : Type 0 where
     sized : length marks ≡ length words
-    low : x ≤ 2 ^ 24
+    low : x ≤ 2 ^ 21
     near : left ≡ false → x ≤ center .x + stepsRight shape angle
     resumes : Resumes words (rest left x) marks (walk shape center angle left) marks₀
 
@@ -45,12 +45,12 @@ module _ (words : List ℕ) (shape : Shape) (center : PointU) (angle : Angle) wh
       → x ≡ firstColumn center left → Walking marks left marks x
   unfolding walk
   begins true {x} limits inside same e =
-      let low : x ≤ 2 ^ 24 = omega (arith, limits .width-most, inside .column, e) in
+      let low : x ≤ 2 ^ 21 = omega (arith, limits .width-most, inside .column, e) in
       record { sized = same; low = low; near = λ f. absurd (true≢false f); resumes = rw e resumes-start }
   begins false {x} limits inside same e =
       let some = steps-some shape (scaled (angle .sin)) in
       let all : suc (center .x + 2 ^ 20 - (center .x + 1)) ≡ 2 ^ 20 = omega arith in
-      let low : x ≤ 2 ^ 24 = omega (arith, limits .width-most, inside .column, e) in
+      let low : x ≤ 2 ^ 21 = omega (arith, limits .width-most, inside .column, e) in
       record { sized = same; low = low; near = λ f. rw e (omega (arith, some)); resumes = rw (e, all) resumes-start }
 
   module _ {marks₀ marks : List ℕ} {x : ℕ} {white : Bool} {after : List ℕ}
