@@ -1,11 +1,10 @@
 -- How large a float is at least, through Rust's operators at binary32: `Far s n x` says that x has the sign s and is n or more in size, an infinity included.
 -- And where whole numbers are kept exactly: `HasValue x s n 1`. Assumes nothing.
-use mathlib.Core.Path.{_≡_, refl, sym, ap, subst, _∙_}
-use mathlib.Core.Bool.{Bool, true, false, not, cond, _&&_, Bool·beq, true≢false}
+use mathlib.Core.Path.{_≡_, refl, sym, ap, ap₂, subst, subst⁻¹, _∙_}
+use mathlib.Core.Bool.{Bool, true, false, not, cond, true≢false}
 use Prim.Native.Nat.{ℕ, zero, suc, _+_, _-_, _*_, _/_, _^_, _≤_, _<_}
-use native.Mathlib.Nat.{le-trans, le-of-eq, mul-comm, mul-assoc, mul-one, zero-mul, mul-right-comm, mul-mul-mul-comm, mul-sub, add-mul}
-use native.Mathlib.Nat.{mul-le-mul-right, mul-lt-mul-of-pos-right, le-of-mul-le-mul-right, eq-of-mul-eq-mul-right, mul-pos, le-div-iff-mul-le, mul-div-cancel}
-use native.Mathlib.Decide.{decLt}
+use native.Mathlib.Nat.{le-trans, le-of-eq, mul-comm, mul-assoc, mul-one, zero-mul, mul-right-comm, mul-mul-mul-comm, add-mul}
+use native.Mathlib.Nat.{mul-le-mul-right, le-of-mul-le-mul-right, eq-of-mul-eq-mul-right, mul-pos, le-div-iff-mul-le, mul-div-cancel}
 use native.Mathlib.Omega.{arith}
 use lib.Dec.{T, ltb}
 use lib.Pow.{pow-pos}
@@ -18,6 +17,8 @@ use lib.Ieee.Positive.{positive, positive-of-value, above-of-le, values-of-le, o
 use lib.Ieee.Scale.{round-same}
 use borrow.Author.Tests.{le-ltb, lt-ltb}
 use Rattle.ieee.specs.Sign.{abs}
+use Rattle.ieee.specs.BetweenLaws.{sub-mul}
+use Rattle.ieee.specs.SizeLaws.{apart, apart-zero, apart-most, abs-add, neg-value}
 
 abbrev pub Far : Bool → ℕ → Float → Type 0
 Far s n nan = ⊥
@@ -110,9 +111,6 @@ other-far true false a b c n N small C h =
 widen : (m a de dd : ℕ) → m * 1 ≡ a * de → m * dd ≡ a * (de * dd)
 widen m a de dd h = ap (λ (z : ℕ). z * dd) (sym (mul-one m) ∙ h) ∙ mul-assoc a de dd
 
-pub cut-mul : (a b c : ℕ) → (a - b) * c ≡ a * c - b * c
-cut-mul a b c = mul-comm (a - b) c ∙ mul-sub c a b ∙ ap (λ (z : ℕ). z - c * b) (mul-comm c a) ∙ ap (λ (z : ℕ). a * c - z) (mul-comm c b)
-
 -- ---- whole numbers: a difference of two is exact, and a product with zero is zero
 pub sub-whole : (x y : Float) (a b : ℕ) → HasValue x false a 1 → HasValue y false b 1 → b ≤ a → a ≤ 2 ^ 24 → HasValue (sub binary32 x y) false (a - b) 1
 unfolding sub sum
@@ -129,7 +127,7 @@ sub-whole (fin false m e) (fin false n d) a b p q h small =
     let l : A ≡ a * c = widen (m * up e) a (down e) (down d) (p .1) in
     let r : B ≡ b * c = widen (n * up d) b (down d) (down e) (q .1) ∙ ap (λ (z : ℕ). b * z) (mul-comm (down d) (down e)) in
     let under : b * c ≤ a * c = mul-le-mul-right c h in
-    let size : (A - B) * 1 ≡ (a - b) * c = mul-one (A - B) ∙ ap (λ (z : ℕ). z - B) l ∙ ap (λ (z : ℕ). a * c - z) r ∙ sym (cut-mul a b c) in
+    let size : (A - B) * 1 ≡ (a - b) * c = mul-one (A - B) ∙ ap (λ (z : ℕ). z - B) l ∙ ap (λ (z : ℕ). a * c - z) r ∙ sym (sub-mul a b c) in
     rw (le-ltb A B (omega arith), round-same binary32 false (A - B) c (a - b) 1 (mul-pos (down-pos e) (down-pos d)) (pow-pos 0) size)
     (round-whole binary32 false (a - b) (omega arith))
 
@@ -173,15 +171,9 @@ add-zero-far s t (fin w m e) (fin w' k d) n N small p q =
     (omega (arith, spread n (m * up e) (down e) (down d) (p .1))))
 
 -- a zero taken away is one added, of the other sign
-pub neg-zero : (t : Bool) (z : Float) → HasValue z t 0 1 → HasValue (neg z) (not t) 0 1
-unfolding neg
-neg-zero t nan q = absurd q
-neg-zero t (inf w) q = absurd q
-neg-zero t (fin w k d) q = (ap not (q .0), q .1)
-
 pub sub-zero-far : (s t : Bool) (x z : Float) (n : ℕ) → 0 < n → n ≤ 2 ^ 24 → Far s n x → HasValue z t 0 1 → Far s n (sub binary32 x z)
 unfolding sub
-sub-zero-far s t x z n N small p q = add-zero-far s (not t) x (neg z) n N small p (neg-zero t z q)
+sub-zero-far s t x z n N small p q = add-zero-far s (not t) x (neg z) n N small p (neg-value t z 0 1 q)
 
 pub add-far : (x y : Float) (n b : ℕ) → 0 < n → n ≤ 2 ^ 24 → Far false n x → HasValue y false b 1 → Far false n (add binary32 x y)
 unfolding add
@@ -227,68 +219,24 @@ value-far s t nan n m p q = absurd p
 value-far s t (inf w) n m p q = absurd p
 value-far s t (fin w k e) n m p q = (q .0, p .1)
 
--- how large a sum is, by the signs
-abbrev pub apart : Bool → ℕ → Bool → ℕ → ℕ
-apart s a t b = cond (Bool·beq s t) (a + b) (a - b + (b - a))
-
-pub apart-zero : (s t : Bool) (a : ℕ) → apart s a t 0 ≡ a
-apart-zero true true a = omega arith
-apart-zero true false a = omega arith
-apart-zero false true a = omega arith
-apart-zero false false a = omega arith
-
-pub zero-apart : (s t : Bool) (b : ℕ) → apart s 0 t b ≡ b
-zero-apart true true b = omega arith
-zero-apart true false b = omega arith
-zero-apart false true b = omega arith
-zero-apart false false b = omega arith
-
-round-sized : (s : Bool) (n a c : ℕ) → 0 < c → a ≡ n * c → n ≤ 2 ^ 24 → Sized n (round binary32 s a c)
-round-sized s n a c C e small = record {
-  sign = s;
-  value = rw (round-same binary32 s a c n 1 C (pow-pos 0) (mul-one a ∙ e)) (round-whole binary32 s n small);
-}
-
--- of unlike signs; w is the sign that a difference which is not below zero gets
-unlike-sized : (s w t : Bool) (a b c : ℕ) → 0 < c → a + b ≤ 2 ^ 24
-    → Sized (a - b + (b - a)) (cond (ltb (a * c) (b * c)) (round binary32 t (b * c - a * c) c) (round binary32 (s && w) (a * c - b * c) c))
-unlike-sized s w t a b c C small = go (decLt a b)
-  where
-    go : Dec (a < b) → Sized (a - b + (b - a)) (cond (ltb (a * c) (b * c)) (round binary32 t (b * c - a * c) c) (round binary32 (s && w) (a * c - b * c) c))
-    go (yes h) =
-        let less : a * c < b * c = mul-lt-mul-of-pos-right h C in
-        let size : b - a ≡ a - b + (b - a) = omega arith in
-        rw (lt-ltb _ _ less) (subst (λ (n : ℕ). Sized n (round binary32 t (b * c - a * c) c)) size
-        (round-sized t (b - a) (b * c - a * c) c C (sym (cut-mul b a c)) (omega arith)))
-    go (no h) =
-        let least : b * c ≤ a * c = mul-le-mul-right c (omega arith) in
-        let size : a - b ≡ a - b + (b - a) = omega arith in
-        rw (le-ltb _ _ least) (subst (λ (n : ℕ). Sized n (round binary32 (s && w) (a * c - b * c) c)) size
-        (round-sized (s && w) (a - b) (a * c - b * c) c C (sym (cut-mul a b c)) (omega arith)))
-
-sum-sized : (s t : Bool) (a b c : ℕ) → 0 < c → a + b ≤ 2 ^ 24 → Sized (apart s a t b) (sum binary32 s (a * c) t (b * c) c)
-unfolding sum
-sum-sized true true a b c C small = round-sized true (a + b) (a * c + b * c) c C (sym (add-mul a b c)) small
-sum-sized false false a b c C small = round-sized false (a + b) (a * c + b * c) c C (sym (add-mul a b c)) small
-sum-sized true false a b c C small = unlike-sized true (ltb (b * c) (a * c)) false a b c C small
-sum-sized false true a b c C small = unlike-sized false (ltb (b * c) (a * c)) true a b c C small
+sized-abs : (x : Float) (n : ℕ) → HasValue (abs x) false n 1 → Sized n x
+unfolding abs
+sized-abs nan n p = absurd p
+sized-abs (inf t) n p = absurd p
+sized-abs (fin t m e) n p = record { sign = t; value = (refl, p .1) }
 
 pub add-sized : (s t : Bool) (x y : Float) (a b : ℕ) → HasValue x s a 1 → HasValue y t b 1 → a + b ≤ 2 ^ 24 → Sized (apart s a t b) (add binary32 x y)
-unfolding add
-add-sized s t nan y a b p q small = absurd p
-add-sized s t (inf w) y a b p q small = absurd p
-add-sized s t (fin w m e) nan a b p q small = absurd q
-add-sized s t (fin w m e) (inf w') a b p q small = absurd q
-add-sized s t (fin w m e) (fin w' k d) a b p q small =
-    let c = down e * down d in
-    let l : m * up e * down d ≡ a * c = widen (m * up e) a (down e) (down d) (p .1) in
-    let r : k * up d * down e ≡ b * c = widen (k * up d) b (down d) (down e) (q .1) ∙ ap (λ (z : ℕ). b * z) (mul-comm (down d) (down e)) in
-    rw (p .0, q .0, l, r) (sum-sized s t a b c (mul-pos (down-pos e) (down-pos d)) small)
+add-sized s t x y a b p q small =
+    let n = apart s a t b in
+    let size : abs (add binary32 x y) ≡ round binary32 false n 1 =
+    abs-add x y s t a 1 b 1 (pow-pos 0) (pow-pos 0) p q ∙ ap₂ (λ (i j : ℕ). round binary32 false (apart s i t j) 1) (mul-one a) (mul-one b) in
+    sized-abs (add binary32 x y) n
+    (subst⁻¹ (λ (z : Float). HasValue z false n 1) size (round-whole binary32 false n (le-trans (apart-most s t a b) small)))
 
 pub sub-zero-sized : (s t : Bool) (x z : Float) (a : ℕ) → HasValue x s a 1 → HasValue z t 0 1 → a ≤ 2 ^ 24 → Sized a (sub binary32 x z)
 unfolding sub
 sub-zero-sized s t x z a p q small =
-    subst (λ (n : ℕ). Sized n (add binary32 x (neg z))) (apart-zero s (not t) a) (add-sized s (not t) x (neg z) a 0 p (neg-zero t z q) (omega arith))
+    subst (λ (n : ℕ). Sized n (add binary32 x (neg z))) (apart-zero s (not t) a) (add-sized s (not t) x (neg z) a 0 p (neg-value t z 0 1 q) (omega arith))
 
 pub cell-sized : (x : Float) (n : ℕ) → n < 2 ^ 32 → Sized n x → toUnsigned 32 (abs x) ≡ n
 unfolding toUnsigned abs

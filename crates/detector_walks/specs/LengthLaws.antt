@@ -12,6 +12,7 @@ use lib.Pow.{pow-pos}
 use lib.Ieee.{Float, binary32, add, sub, mul, ofBits, toUnsigned}
 use lib.Ieee.Exact.{HasValue}
 use Rattle.ieee.specs.Sign.{abs}
+use Rattle.ieee.specs.SizeLaws.{apart, apart-zero, zero-apart}
 use Rattle.reads.specs.Reads.{done, _>>=_, value}
 use Rattle.reads.specs.ReadsLaws.{value-bind}
 use Rattle.reads.specs.Bits.{bitAt}
@@ -29,7 +30,7 @@ use Rattle.rxing_result_point.specs.PointsLaws.{real-value}
 use Rattle.detector_walks.specs.Walks.{whitePixel, walk, widthOf, findWidthAtDegree}
 use Rattle.detector_walks.specs.StepsLaws.{steps-at-fifth}
 use Rattle.detector_walks.specs.FarLaws.{mul-far, mul-whole, mul-zero-value, sub-zero-far, value-far}
-use Rattle.detector_walks.specs.FarLaws.{Sized, apart, apart-zero, zero-apart, add-sized, sub-zero-sized, cell-sized}
+use Rattle.detector_walks.specs.FarLaws.{Sized, add-sized, sub-zero-sized, cell-sized}
 use Rattle.detector_walks.specs.WalksLaws.{past-value, whiteAt, EndsAt, right-ends}
 
 -- ---- a point of the centre's row where the sine is 0 and the cosine 1, or -1 (t), k columns to the right of the centre before it is turned

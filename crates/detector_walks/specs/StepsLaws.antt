@@ -113,7 +113,7 @@ module _ {angle : Angle} (of : OfDegree angle) where
   pub rules : Rules angle
   rules = subst Rules (sym (of .is)) (rules-at (of .degree))
 
-  pub steps-few : {shape : Shape} → Limits shape → stepsRight shape angle ≤ 2 ^ 20
+  pub steps-few : {shape : Shape} → Limits shape → stepsRight shape angle + 2 ^ 10 ≤ 2 ^ 20
   steps-few {shape} limits = omega (arith, steps-more shape (scaled (angle .sin)), rules .few, limits .words-most)
 
 -- ---- the degrees that are walked

@@ -2,7 +2,7 @@
 -- of all words. So it ends at its first point that is black or past the last word, as the loop does (`right-ends`). And that what a step is lent is there for
 -- the next one too. Assumes nothing.
 use mathlib.Core.Path.{_≡_, refl, sym, ap, subst, subst⁻¹, _∙_}
-use mathlib.Core.Bool.{Bool, true, false, cond, true≢false}
+use mathlib.Core.Bool.{Bool, true, false, cond}
 use mathlib.Core.Logic.{inl, inr}
 use mathlib.Core.List.{List}
 use Prim.Native.Nat.{ℕ, zero, suc, _+_, _-_, _*_, _^_, _<_, _≤_}
@@ -86,10 +86,10 @@ module _ (shape : Shape) (center : PointU) (angle : Angle) (words : List ℕ) wh
     pub stops : whiteAt column ≡ false
     pub passes : (x : ℕ) → first ≤ x → x < column → whiteAt x ≡ true
 
-  abbrev next : ℕ → ℕ → Bool → Reads ℕ
+  abbrev pub next : ℕ → ℕ → Bool → Reads ℕ
   next fuel x white = cond white (rightFrom shape center angle fuel (x + 1)) (done x)
 
-  from-step : (fuel x : ℕ) {b : Bool} → whiteAt x ≡ b → valueOf (rightFrom shape center angle (suc fuel) x) words ≡ valueOf (next fuel x b) words
+  pub from-step : (fuel x : ℕ) {b : Bool} → whiteAt x ≡ b → valueOf (rightFrom shape center angle (suc fuel) x) words ≡ valueOf (next fuel x b) words
   unfolding rightFrom
   from-step fuel x e =
       valueOf-bind (whitePoint shape (walkPoint center angle x)) (next fuel x) words ∙ ap (λ (b : Bool). valueOf (next fuel x b) words) e
@@ -176,19 +176,11 @@ module _ {shape : Shape} (limits : Limits shape) (center : PointU) (inside : Ins
 
   -- ---- so the walk has ended there, on every image
   module _ (words : List ℕ) where
-    walk-stops : whiteAt shape center angle words (center .x + stepsRight shape angle) ≡ false
+    pub walk-stops : whiteAt shape center angle words (center .x + stepsRight shape angle) ≡ false
     unfolding whitePixel valueOf value
     walk-stops =
-        let far = walk-far (scaled (angle .sin)) (rules of .sine) (rules of .flat) (steps-few of limits) in
+        let far = walk-far (scaled (angle .sin)) (rules of .sine) (rules of .flat) (omega (arith, steps-few of limits)) in
         rw (le-leb _ _ far) refl
-
-    -- a column from which it goes on is not that one
-    pub before-end : (x : ℕ) {white : Bool} → x ≤ center .x + stepsRight shape angle → white ≡ whiteAt shape center angle words x → white ≡ true
-        → x < center .x + stepsRight shape angle
-    before-end x h is on = elim (eq-or-lt-of-le h) [
-      | inl e ↦ absurd (true≢false (sym on ∙ is ∙ ap (whiteAt shape center angle words) e ∙ walk-stops))
-      | inr l ↦ l
-    ]
 
 -- the walk to the right ends at its first point that is not white, before its steps are used up: at every degree, on every image of the shape
 pub right-ends : {shape : Shape} → Limits shape → (center : PointU) → Inside shape (center .x) (center .y) → (degree : ℕ) (words : List ℕ)

@@ -4,12 +4,16 @@ use bit_matrix::Shape;
 use rxing_result_point::Point;
 use rxing_result_point::PointU;
 use sines::Angle;
+ghost use mathlib.Core.Bool.{true, false};
 ghost use mathlib.Core.Path.{_≡_};
 ghost use Prim.Native.Nat.{_+_, _^_, _≤_, _<_};
 ghost use Rattle.reads.specs.RunsClauses.{Ran};
 ghost use Rattle.bit_matrix.specs.ShapeClauses.{Image, Inside};
-ghost use Rattle.detector_walks.specs.Walks.{walkPoint, whitePixel, whitePoint, firstColumn, walk, widthOf, findWidthAtDegree};
-ghost use Rattle.detector_walks.specs.WalksClauses.{OfDegree, Lent};
+ghost use Rattle.ieee.specs.Sign.{abs};
+ghost use Rattle.ieee.specs.BetweenLaws.{Between};
+ghost use Rattle.detector_walks.specs.Walks.{walkPoint, whitePixel, whitePoint, rightFrom, walk, widthOf, findWidthAtDegree};
+ghost use Rattle.detector_walks.specs.WalksClauses.{OfDegree, Along, stepsLeft, Lent};
+ghost use Rattle.detector_walks.specs.StepsLaws.{stepsRight};
 
 // What the two walks at a degree come to: how many steps they took together, and the points where they end.
 pub struct Width {
@@ -53,14 +57,6 @@ fn goes_on(
     is_white(words, marks, shape, column, row)
 }
 
-// The column where a walk starts: to the left the centre's own.
-fn first_column(center: PointU, left: bool) -> u32
-    requires { ⌜ center .x + 1 < 2 ^ 32 ⌝ }
-    ensures { λ r. ⌜ r ≡ firstColumn center left ⌝ }
-{
-    if left { center.x } else { center.x + 1 }
-}
-
 // The point that a walk is at in column x.
 fn walk_point(center: PointU, angle: Angle, x: u32) -> Point
     ensures { λ r. ⌜ r ≡ walkPoint center angle x ⌝ }
@@ -69,30 +65,120 @@ fn walk_point(center: PointU, angle: Angle, x: u32) -> Point
     rxing_result_point::turn(center, PointU { x, y }, angle)
 }
 
-// The column where a walk ends. To the left column 0 is looked at too, before the test that ends the walk there.
-fn walk(
+// The column where the walk to the left ends. Column 0 is looked at too, before the test that ends the walk there.
+fn walk_left(words: &[u64], marks: &mut [u64], shape: Shape, center: PointU, angle: Angle) -> u32
+    requires { ⌜ Image shape (now words) (now marks) × Inside shape (center .x) (center .y) × OfDegree angle ⌝ }
+    ensures { λ r. ⌜ Ran (walk shape center angle true) (now (words .entry)) (now (marks .entry)) r (now (marks .exit)) ⌝ }
+{
+    let mut x = center.x;
+    while goes_on(words, marks, shape, center, angle, x) {
+        if x == 0 {
+            return x;
+        }
+        x -= 1;
+    }
+    x
+}
+
+// The column where the walk to the right from column x ends within 16 steps, taken one by one: where most walks end.
+fn step_on(
     words: &[u64],
     marks: &mut [u64],
     shape: Shape,
     center: PointU,
     angle: Angle,
-    left: bool,
+    x: u32,
 ) -> u32
-    requires { ⌜ Image shape (now words) (now marks) × Inside shape (center .x) (center .y) × OfDegree angle ⌝ }
-    ensures { λ r. ⌜ Ran (walk shape center angle left) (now (words .entry)) (now (marks .entry)) r (now (marks .exit)) ⌝ }
+    requires { ⌜ Image shape (now words) (now marks) × Inside shape (center .x) (center .y) × (x ≤ 2 ^ 12) × OfDegree angle ⌝ }
+    ensures { λ r. ⌜ Ran (rightFrom shape center angle 16 x) (now (words .entry)) (now (marks .entry)) r (now (marks .exit)) ⌝ }
 {
-    let mut x = first_column(center, left);
-    while goes_on(words, marks, shape, center, angle, x) {
-        if left {
-            if x == 0 {
-                return x;
-            }
-            x -= 1;
+    let mut i = 0u32;
+    while i < 16 {
+        if goes_on(words, marks, shape, center, angle, x + i) {
+            i += 1;
         } else {
-            x += 1;
+            return x + i;
         }
     }
-    x
+    x + 16
+}
+
+// Where the points of 32 columns from x on lie along one axis: whole columns with the cosine and the centre's column, whole rows with the sine and its row.
+// Nothing is read in between, so that they are worked out side by side.
+fn along(factor: f32, center_x: u32, from: u32, x: u32) -> [u32; 32]
+    requires { ⌜ Between 0 1 (abs factor) × («center_x» < 2 ^ 11) × (from < 2 ^ 11) × (x < 2 ^ 20 + 2 ^ 12) ⌝ }
+    ensures { λ r. ⌜ Along factor «center_x» from x 32 r ⌝ }
+{
+    let cx = center_x as f32;
+    let c = from as f32;
+    let mut cells = [0u32; 32];
+    let mut i = 0usize;
+    while i < 32 {
+        let u = ((x + i as u32) % 0x20_0000) as f32 - cx;
+        cells[i] = ieee::abs_small_f32_to_u32(factor * u + c);
+        i += 1;
+    }
+    cells
+}
+
+// The column where the walk to the right from column x ends within 32 steps.
+fn stride_on(
+    words: &[u64],
+    marks: &mut [u64],
+    shape: Shape,
+    center: PointU,
+    angle: Angle,
+    x: u32,
+) -> u32
+    requires { ⌜ Image shape (now words) (now marks) × Inside shape (center .x) (center .y) × (x < 2 ^ 20 + 2 ^ 12) × OfDegree angle ⌝ }
+    ensures { λ r. ⌜ Ran (rightFrom shape center angle 32 x) (now (words .entry)) (now (marks .entry)) r (now (marks .exit)) ⌝ }
+{
+    let columns = along(angle.cos, center.x, center.x, x);
+    let rows = along(angle.sin, center.x, center.y, x);
+    let mut i = 0usize;
+    while i < 32 {
+        if is_white(words, marks, shape, columns[i], rows[i]) {
+            i += 1;
+        } else {
+            return x + i as u32;
+        }
+    }
+    x + 32
+}
+
+// The column where the walk to the right ends, by strides from a column on. The sine tells where it has ended at the latest.
+fn strides(
+    words: &[u64],
+    marks: &mut [u64],
+    shape: Shape,
+    center: PointU,
+    angle: Angle,
+    first: u32,
+) -> u32
+    requires { ⌜ Image shape (now words) (now marks) × Inside shape (center .x) (center .y) × OfDegree angle × (first ≤ center .x + stepsRight shape angle) ⌝ }
+    ensures { λ r. ⌜ Ran (rightFrom shape center angle (stepsLeft center first) first) (now (words .entry)) (now (marks .entry)) r (now (marks .exit)) ⌝ }
+{
+    let mut x = first;
+    loop {
+        let end = stride_on(words, marks, shape, center, angle, x);
+        if end < x + 32 {
+            return end;
+        }
+        x = end;
+    }
+}
+
+// The column where the walk to the right ends: a few steps one by one, then strides.
+fn walk_right(words: &[u64], marks: &mut [u64], shape: Shape, center: PointU, angle: Angle) -> u32
+    requires { ⌜ Image shape (now words) (now marks) × Inside shape (center .x) (center .y) × OfDegree angle ⌝ }
+    ensures { λ r. ⌜ Ran (walk shape center angle false) (now (words .entry)) (now (marks .entry)) r (now (marks .exit)) ⌝ }
+{
+    let first = center.x + 1;
+    let x = step_on(words, marks, shape, center, angle, first);
+    if x < first + 16 {
+        return x;
+    }
+    strides(words, marks, shape, center, angle, x)
 }
 
 // The width between the columns where the walks end.
@@ -120,7 +206,7 @@ pub fn find_width_at_degree(
     ensures { λ r. ⌜ Ran (findWidthAtDegree shape center degree) (now (words .entry)) (now (marks .entry)) r (now (marks .exit)) ⌝ }
 {
     let angle = sines::angle_of(table, degree);
-    let left = walk(words, marks, shape, center, angle, true);
-    let right = walk(words, marks, shape, center, angle, false);
+    let left = walk_left(words, marks, shape, center, angle);
+    let right = walk_right(words, marks, shape, center, angle);
     width_of(center, angle, left, right)
 }

@@ -3,13 +3,13 @@
 -- rounded M / 2. Where |M - b| ≥ M / 2 it fails, since rounding keeps that. Otherwise M / 2 is larger by a 32nd at least, since total / 5 and M lie
 -- between the same two 64ths: so it passes. Assumes nothing.
 use mathlib.Core.Path.{_≡_, sym, ap, ap₂, _∙_}
-use mathlib.Core.Bool.{Bool, true, false, not, _&&_, cond, true≢false}
+use mathlib.Core.Bool.{Bool, true, false, not, _&&_, true≢false}
 use mathlib.Core.Logic.{inl, inr}
 use Prim.Native.Nat.{ℕ, _+_, _-_, _*_, _/_, _^_, _≤_, _<_}
-use native.Mathlib.Nat.{le-trans, mul-comm, mul-assoc, mul-left-comm, mul-right-comm, mul-one, mul-pos, mul-sub, add-mul, mul-le-mul-right, eq-or-lt-of-le}
+use native.Mathlib.Nat.{le-trans, mul-comm, mul-assoc, mul-left-comm, mul-one, mul-pos, mul-le-mul-right, eq-or-lt-of-le}
 use native.Mathlib.Omega.{arith}
 use lib.Dec.{T, ltb, eqb, ltb→lt, nltb→le, lit<}
-use lib.Ieee.{Float, nan, inf, fin, binary32, up, down, round, sum, sub, div, lt}
+use lib.Ieee.{Float, nan, inf, fin, binary32, up, down, round, neg, sub, div, lt}
 use lib.Ieee.Fits.{down-pos}
 use lib.Ieee.Exact.{HasValue}
 use lib.Ieee.Positive.{num, den, den-pos}
@@ -20,48 +20,21 @@ use Rattle.rxing_result_point.specs.Points.{real}
 use Rattle.rxing_result_point.specs.PointsLaws.{real-value}
 use Rattle.detector_widths.specs.Widths.{passes}
 use Rattle.detector_widths.specs.WidthsF32.{moduleSize, passesF32}
-use Rattle.ieee.specs.RoundLaws.{abs-round, Plain}
+use Rattle.ieee.specs.RoundLaws.{Plain}
+use Rattle.ieee.specs.SizeLaws.{apart, abs-add, neg-value}
 use Rattle.detector_widths.specs.RoundedOrderLaws.{rounded-plain, round-not-less, round-under, round-over, round-less}
 
 -- how far two numbers lie apart
 abbrev gap : ℕ → ℕ → ℕ
-gap a b = (a - b) + (b - a)
-
-gap-scale : (a b k : ℕ) → gap (a * k) (b * k) ≡ gap a b * k
-gap-scale a b k = sym (add-mul (a - b) (b - a) k ∙ ap₂ _+_ (cut a b) (cut b a))
-  where
-    cut : (x y : ℕ) → (x - y) * k ≡ x * k - y * k
-    cut x y = mul-comm (x - y) k ∙ mul-sub k x y ∙ ap₂ _-_ (mul-comm k x) (mul-comm k y)
+gap a b = apart false a true b
 
 -- ---- the operations, each as one fraction rounded
-abs-sum : (a b c : ℕ) → abs (sum binary32 false a true b c) ≡ round binary32 false (gap a b) c
-unfolding sum
-abs-sum a b c = go (ltb a b) (ltb→lt a b) (nltb→le a b)
-  where
-    go : (t : Bool) → (T t → a < b) → (T (not t) → b ≤ a)
-        → abs (cond t (round binary32 true (b - a) c) (round binary32 false (a - b) c)) ≡ round binary32 false (gap a b) c
-    go true less more = abs-round binary32 true (b - a) c ∙ ap (λ (n : ℕ). round binary32 false n c) (omega (arith, less tt))
-    go false less more = abs-round binary32 false (a - b) c ∙ ap (λ (n : ℕ). round binary32 false n c) (omega (arith, more tt))
-
 -- |a / c - b|
 abs-sub : (x y : Float) (a c b : ℕ) → 0 < c → HasValue x false a c → HasValue y false b 1 → abs (sub binary32 x y) ≡ round binary32 false (gap a (b * c)) c
 unfolding sub
-abs-sub nan y a c b C v w = absurd v
-abs-sub (inf s) y a c b C v w = absurd v
-abs-sub (fin true m e) y a c b C v w = absurd (true≢false (v .0))
-abs-sub (fin false m e) nan a c b C v w = absurd w
-abs-sub (fin false m e) (inf t) a c b C v w = absurd w
-abs-sub (fin false m e) (fin true n d) a c b C v w = absurd (true≢false (w .0))
-abs-sub (fin false m e) (fin false n d) a c b C v w =
-    let p = m * up e * down d in
-    let q = n * up d * down e in
-    let k = down e * down d in
-    let left : p * c ≡ a * k = mul-right-comm (m * up e) (down d) c ∙ ap (λ (z : ℕ). z * down d) (v .1) ∙ mul-assoc a (down e) (down d) in
-    let whole : n * up d ≡ b * down d = sym (mul-one (n * up d)) ∙ w .1 in
-    let right : q * c ≡ b * c * k = rw whole (simp (mul-assoc, mul-comm, mul-left-comm)) in
-    abs-sum p q k
-    ∙ round-same binary32 false (gap p q) k (gap a (b * c)) c (mul-pos (down-pos e) (down-pos d)) C
-    (sym (gap-scale p q c) ∙ ap₂ gap left right ∙ gap-scale a (b * c) k)
+abs-sub x y a c b C v w =
+    abs-add x (neg y) false true a c b 1 C (lit< tt) v (neg-value false y b 1 w)
+    ∙ ap₂ (λ (n d : ℕ). round binary32 false (gap n (b * c)) d) (mul-one a) (mul-one c)
 
 -- (a / c) / k
 div-whole : (x y : Float) (a c k : ℕ) → 0 < c → 0 < k → HasValue x false a c → HasValue y false k 1 → div binary32 x y ≡ round binary32 false a (c * k)

@@ -1,6 +1,6 @@
 -- The whole part of a value of binary32 below 2 ^ 28, in the bit pattern of 2 ^ 28 more at binary64. And the sign, cleared in the pattern. Assumes nothing.
 use Prim.Native.Nat.{ℕ, zero, suc, _+_, _-_, _*_, _/_, _%_, _^_, _≤_, _<_}
-use native.Mathlib.Nat.{le-trans, le-of-eq, lt-of-lt-of-le, mul-assoc, mul-right-comm, mul-lt-mul-of-pos-right}
+use native.Mathlib.Nat.{le-trans, le-of-eq, lt-of-lt-of-le, mod-lt, mul-assoc, mul-right-comm, mul-lt-mul-of-pos-right}
 use native.Mathlib.Nat.{le-of-mul-le-mul-right, eq-of-mul-eq-mul-right, div-lt-iff-lt-mul, le-div-iff-mul-le}
 use native.Mathlib.Omega.{arith}
 use mathlib.Core.Path.{_≡_, refl, sym, ap, _∙_, subst}
@@ -9,10 +9,11 @@ use mathlib.Core.Logic.{⊎-elim}
 use lib.Dec.{T, ltb→lt}
 use lib.IntN.{ℤ, pos, negsuc}
 use lib.Pow.{pow-pos, pow-add, pow-mono, shl-lt}
-use lib.Ieee.{Float, nan, inf, fin, binary32, binary64, up, down, round, sum, add, lt, le, fits, isNan, nanBits, ofBits, toBits, toUnsigned}
+use lib.Ieee.{Float, nan, inf, fin, Format, binary32, binary64, prec, low, hid, up, down}
+use lib.Ieee.{round, sum, add, lt, le, fits, isNan, nanBits, ofBits, toBits, toUnsigned}
 use lib.Ieee.Bits.{ofBits-toBits, toBits-lt, nanBits-is}
 use lib.Ieee.Exact.{HasValue, round-exact}
-use lib.Ieee.Fits.{down-pos, add-fits, fits-widens, and-i}
+use lib.Ieee.Fits.{two, reach, down-pos, add-fits, fits-widens, and-i}
 use lib.Ieee.Order.{round-mono}
 use lib.Ieee.Positive.{positive, num, den, den-pos, own-value, positive-of-value, values-of-le, between, value→cross}
 use Rattle.ieee.specs.Sign.{abs}
@@ -79,34 +80,38 @@ module _ (n a d : ℕ) (p : 0 < d) (small : n < 2 ^ 28) (under : n * d ≤ a) (o
         most = values-of-le moved last _ (den moved) _ (2 ^ 24) here to own high less;
       }
 
--- so its pattern has n in the digits from 24 on
+-- ---- the pattern of a t from 2 ^ w to below 2 ^ (w + 1) counts 2 ^ -k, in a format of w + 1 + k digits
+twice-hid : (f : Format) → 2 ^ prec f ≡ 2 * hid f
+twice-hid binary32 = refl
+twice-hid binary64 = refl
+
+module _ (f : Format) (t : Float) (fit : T (fits f t)) (above : T (positive t)) (w k : ℕ) (long : prec f ≡ suc (w + k)) where
+  pub counted : 2 ^ w * den t ≤ num t → num t < 2 ^ suc w * den t → num t * 2 ^ k ≡ (hid f + toBits f t % hid f) * den t
+  counted from to = go (toBits f t / hid f) (toBits f t % hid f) (mod-lt (toBits f t) (pow-pos (prec f - 1))) (plain-fields f t fit above .fields)
+    where
+      cross : (y r : ℕ) → InFields f t false y r → num t * 2 ^ low f ≡ digits f y r * 2 ^ places y * den t
+      cross y r fields = value→cross t (digits f y r * 2 ^ places y) (2 ^ low f) (fields .value)
+
+      go : (y r : ℕ) → r < hid f → InFields f t false y r → num t * 2 ^ k ≡ (hid f + r) * den t
+      go zero r few fields = absurd
+          (omega (arith, two f, reach f, above-power (num t) (den t) r 0 (low f) (den-pos t) (cross 0 r fields) (prec f - 1) w few from))
+      go (suc y) r few fields =
+          let d = hid f + r in
+          let value : num t * 2 ^ low f ≡ d * 2 ^ y * den t = cross (suc y) r fields in
+          let least : w + low f < prec f + y = above-power (num t) (den t) d y (low f) (den-pos t) value (prec f) w (omega (arith, twice-hid f)) from in
+          let most : prec f - 1 + y < suc w + low f = below-power (num t) (den t) d y (low f) (den-pos t) value (prec f - 1) (suc w) (omega arith) to in
+          lowered (num t) (den t) d y k (low f) (omega arith) value
+
+-- so the pattern of 2 ^ 28 + n and a part of one has n in the digits from 24 on
 in-digits : (n : ℕ) (t : Float) → T (fits binary64 t) → n < 2 ^ 28 → Pinned n t → toBits binary64 t / 2 ^ 24 % 2 ^ 28 ≡ n
-in-digits n t fit small is = go (toBits binary64 t) (toBits binary64 t / 2 ^ 52) refl (plain-fields binary64 t fit (is .above) .fields)
-  where
-    cross : (y r : ℕ) → InFields binary64 t false y r → num t * 2 ^ 1074 ≡ digits binary64 y r * 2 ^ places y * den t
-    cross y r fields = value→cross t (digits binary64 y r * 2 ^ places y) (2 ^ 1074) (fields .value)
-
-    from : 2 ^ 28 * den t ≤ num t
-    from = omega (arith, is .least)
-
-    to : num t < 2 ^ 29 * den t
-    to =
-        let limit : (2 ^ 28 + n) * 2 ^ 24 + (2 ^ 24 - 1) < 2 ^ 53 = omega arith in
-        omega (arith, is .most, mul-lt-mul-of-pos-right limit (den-pos t))
-
-    go : (b y : ℕ) → b / 2 ^ 52 ≡ y → InFields binary64 t false y (b % 2 ^ 52) → b / 2 ^ 24 % 2 ^ 28 ≡ n
-    go b zero e fields = absurd
-        (omega (arith, above-power (num t) (den t) (b % 2 ^ 52) 0 1074 (den-pos t) (cross 0 (b % 2 ^ 52) fields) 52 28 (omega arith) from))
-    go b (suc y) e fields =
-        let r = b % 2 ^ 52 in
-        let d = 2 ^ 52 + r in
-        let value : num t * 2 ^ 1074 ≡ d * 2 ^ y * den t = cross (suc y) r fields in
-        let low : 28 + 1074 < 53 + y = above-power (num t) (den t) d y 1074 (den-pos t) value 53 28 (omega arith) from in
-        let high : 52 + y < 29 + 1074 = below-power (num t) (den t) d y 1074 (den-pos t) value 52 29 (omega arith) to in
-        let units : num t * 2 ^ 24 ≡ d * den t = lowered (num t) (den t) d y 24 1074 (omega arith) value in
-        let least : (2 ^ 28 + n) * 2 ^ 24 ≤ d = le-of-mul-le-mul-right (le-trans (is .least) (le-of-eq units)) (den-pos t) in
-        let most : d ≤ (2 ^ 28 + n) * 2 ^ 24 + (2 ^ 24 - 1) = le-of-mul-le-mul-right (le-trans (le-of-eq (sym units)) (is .most)) (den-pos t) in
-        omega arith
+in-digits n t fit small is =
+    let limit : (2 ^ 28 + n) * 2 ^ 24 + (2 ^ 24 - 1) < 2 ^ 53 = omega arith in
+    let to : num t < 2 ^ 29 * den t = omega (arith, is .most, mul-lt-mul-of-pos-right limit (den-pos t)) in
+    let d = 2 ^ 52 + toBits binary64 t % 2 ^ 52 in
+    let units : num t * 2 ^ 24 ≡ d * den t = counted binary64 t fit (is .above) 28 24 refl (omega (arith, is .least)) to in
+    let least : (2 ^ 28 + n) * 2 ^ 24 ≤ d = le-of-mul-le-mul-right (le-trans (is .least) (le-of-eq units)) (den-pos t) in
+    let most : d ≤ (2 ^ 28 + n) * 2 ^ 24 + (2 ^ 24 - 1) = le-of-mul-le-mul-right (le-trans (le-of-eq (sym units)) (is .most)) (den-pos t) in
+    omega arith
 
 -- ---- the sign, cleared in the pattern
 resigned : (s z : Bool) (m : ℕ) (e : ℤ) → T (fits binary32 (fin s m e)) → T (fits binary32 (fin z m e))

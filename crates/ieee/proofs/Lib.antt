@@ -10,3 +10,4 @@ pub mod Units
 pub mod Fields
 pub mod WholePart
 pub mod Below
+pub mod Small

@@ -95,7 +95,7 @@ div-between f (fin false m e) (fin false n d) {lo = lo} {hi = hi} H b p z u o =
     (omega (arith, mul-le-mul-right (down e) o, mul-le-mul-right (down d) (b .high))))
 
 -- ---- the sum, and the difference of two in order
-sub-mul : (a b k : ℕ) → (a - b) * k ≡ a * k - b * k
+pub sub-mul : (a b k : ℕ) → (a - b) * k ≡ a * k - b * k
 sub-mul a b k = mul-comm (a - b) k ∙ mul-sub k a b ∙ ap₂ _-_ (mul-comm k a) (mul-comm k b)
 
 pub add-between : (f : Format) (x y : Float) {l h l′ h′ : ℕ} → h + h′ ≤ 2 ^ prec f → Between l h x → Between l′ h′ y

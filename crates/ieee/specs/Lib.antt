@@ -5,3 +5,4 @@ pub mod Units
 pub mod Whole
 pub mod RoundLaws
 pub mod BetweenLaws
+pub mod SizeLaws

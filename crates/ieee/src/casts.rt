@@ -82,6 +82,19 @@ pub fn abs_below_f32_to_u32(x: f32) -> u32
     (bits / 0x100_0000 % 0x1000_0000) as u32
 }
 
+// Rust's `x.abs() as u32` of an x below 2 ^ 22 in size, by operations of f32 alone, so that several go side by side in vectors. From
+// 2 ^ 23 to 2 ^ 24 every f32 is whole: 2 ^ 23 more than the size is 2 ^ 23 more than its whole part, or one above that, which
+// then exceeds the size.
+pub fn abs_small_f32_to_u32(x: f32) -> u32
+    requires { ⌜ T (Ieee.lt (abs x) (fin false 1 (pos 22))) ⌝ }
+    ensures { λ r. ⌜ r ≡ Ieee.toUnsigned 32 (abs x) ⌝ }
+{
+    let size = f32::from_bits(f32::to_bits(x) % 0x8000_0000);
+    let nearest = size + 8388608.0;
+    let above = nearest - 8388608.0 > size;
+    f32::to_bits(nearest) % 0x80_0000 - (above as u32)
+}
+
 // Rust's `x as i32`.
 pub fn saturating_f32_to_i32(x: f32) -> i32
     ensures { λ r. ⌜ r ≡ Ieee.toSigned 31 x ⌝ }

@@ -1,5 +1,5 @@
 // What Rust has on floats and Rattle lacks, as functions that ask nothing of their argument: bit
-// patterns, abs, saturating casts, and floor and round to an integer. One cast more is for small
+// patterns, abs, saturating casts, and floor and round to an integer. Two casts more are for small
 // numbers only, and faster. Each contract
 // is one equation with a definition, of the logic's account of IEEE 754 (`lib.Ieee`) or of specs/, for
 // every float, NaNs too.
@@ -13,6 +13,7 @@ pub use bits::f32_of_bits;
 pub use bits::f64_of_bits;
 pub use casts::abs_below_f32_to_u32;
 pub use casts::abs_f32_to_u32;
+pub use casts::abs_small_f32_to_u32;
 pub use casts::floor_f64_to_u32;
 pub use casts::round_floor_f32_to_u32;
 pub use casts::saturating_f32_to_i32;

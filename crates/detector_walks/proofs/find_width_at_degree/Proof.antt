@@ -47,11 +47,11 @@ ended shape center degree e first second is = rw (← e) (ran-bind _ first (ran-
 angle-of-requires : tie.Need-angle-of-requires
 angle-of-requires c κs = search needs
 
-walk-requires : tie.Need-walk-requires
-walk-requires c κs = search (needs, of-degree)
+walk-left-requires : tie.Need-walk-left-requires
+walk-left-requires c κs = search (needs, of-degree)
 
-walk-requires-2 : tie.Need-walk-requires-2
-walk-requires-2 c κs = search (needs, of-degree)
+walk-right-requires : tie.Need-walk-right-requires
+walk-right-requires c κs = search (needs, of-degree)
 
 width-of-requires : tie.Need-width-of-requires
 width-of-requires c κs = (search left-side, search right-side)
@@ -63,4 +63,4 @@ returns : tie.Need-returns
 returns c = search ended
 
 pub find-width-at-degree-spec : {M : Type 1} → statement M
-find-width-at-degree-spec = tie.close (tie.spec angle-of-requires walk-requires walk-requires-2 width-of-requires same-length returns)
+find-width-at-degree-spec = tie.close (tie.spec angle-of-requires walk-left-requires walk-right-requires width-of-requires same-length returns)

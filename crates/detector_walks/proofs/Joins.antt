@@ -1,0 +1,176 @@
+-- So many steps of a walk to the right, from a column on: the loop that takes them, and how they are joined to the whole walk. Assumes nothing.
+use Prim.Native.Nat.{ℕ, zero, suc, _+_, _-_, _^_, _≤_, _<_}
+use native.Mathlib.Nat.{eq-or-lt-of-le}
+use native.Mathlib.Omega.{arith}
+use mathlib.Core.Bool.{Bool, true, false, cond, true≢false}
+use mathlib.Core.List.{List}
+use mathlib.Core.Logic.{inl, inr}
+use mathlib.Core.Path.{_≡_, refl, sym, ap, ap₂, subst, _∙_}
+use lib.ListN.{length}
+use Rattle.reads.specs.Reads.{Reads, done, _>>=_, value}
+use Rattle.reads.specs.Runs.{valueOf, marksOf}
+use Rattle.reads.specs.RunsClauses.{Ran, Resumes}
+use Rattle.reads.specs.RunsLaws.{ran-done, resumes-start, resumes-step, resumes-then, resumes-else, resumes-end}
+use Rattle.bit_matrix.specs.declared.Shape.{Shape}
+use Rattle.bit_matrix.specs.ShapeClauses.{Limits, Inside}
+use Rattle.sines.specs.declared.Angle.{Angle}
+use Rattle.rxing_result_point.specs.declared.PointU.{PointU}
+use Rattle.detector_walks.specs.Walks.{walkPoint, whitePoint, rightFrom}
+use Rattle.detector_walks.specs.WalksClauses.{OfDegree, stepsLeft}
+use Rattle.detector_walks.specs.StepsLaws.{stepsRight, steps-few}
+use Rattle.detector_walks.specs.WalksLaws.{whiteAt, next, from-step, walk-stops}
+
+-- ---- steps by any test of a column
+module _ (test : ℕ → Reads Bool) where
+  pub steps : ℕ → ℕ → Reads ℕ
+  steps zero x = done x
+  steps (suc n) x = test x >>= λ (white : Bool). cond white (steps n (x + 1)) (done x)
+
+-- tests that are the same of each column take the same steps
+pub same-steps : (test test′ : ℕ → Reads Bool) (n x : ℕ) → ((i : ℕ) → i < n → test (x + i) ≡ test′ (x + i)) → steps test n x ≡ steps test′ n x
+unfolding steps
+same-steps test test′ zero x same = refl
+same-steps test test′ (suc n) x same =
+    let none : x + 0 ≡ x = omega arith in
+    let here : test x ≡ test′ x = rw none at (same 0 (omega arith)) in
+    let later : (i : ℕ) → i < n → test (x + 1 + i) ≡ test′ (x + 1 + i) =
+    λ i h. subst (λ (y : ℕ). test y ≡ test′ y) (omega arith) (same (i + 1) (omega arith)) in
+    ap₂ (λ (p : Reads Bool) (q : Reads ℕ). p >>= λ (white : Bool). cond white q (done x)) here (same-steps test test′ n (x + 1) later)
+
+pub right-steps : (shape : Shape) (center : PointU) (angle : Angle) (n x : ℕ)
+    → steps (λ y. whitePoint shape (walkPoint center angle y)) n x ≡ rightFrom shape center angle n x
+unfolding steps rightFrom
+right-steps shape center angle zero x = refl
+right-steps shape center angle (suc n) x =
+    ap (λ (q : Reads ℕ). whitePoint shape (walkPoint center angle x) >>= λ (white : Bool). cond white q (done x)) (right-steps shape center angle n (x + 1))
+
+-- the loop of n steps from column x on: i of them are taken
+module _ (words : List ℕ) (test : ℕ → Reads Bool) (n x : ℕ) where
+  pub record Stepping (marks₀ marks : List ℕ) (i : ℕ) : Type 0 where
+    pub few : i ≤ n
+    pub sized : length marks ≡ length words
+    pub resumes : Resumes words (steps test (n - i) (x + i)) marks (steps test n x) marks₀
+
+  pub steps-begin : {marks : List ℕ} → length marks ≡ length words → Stepping marks marks 0
+  steps-begin {marks} same =
+      let here : x + 0 ≡ x = omega arith in
+      let all : n - 0 ≡ n = omega arith in
+      record { few = omega arith; sized = same; resumes = rw (here, all) resumes-start }
+
+  module _ {marks₀ marks : List ℕ} {i : ℕ} (stepping : Stepping marks₀ marks i) where
+    module _ {white : Bool} {after : List ℕ} (more : i < n) (ran : Ran (test (x + i)) words marks white after) where
+      step : Resumes words (cond white (steps test (n - (i + 1)) (x + i + 1)) (done (x + i))) after (steps test n x) marks₀
+      unfolding steps
+      step =
+          let one : n - i ≡ suc (n - (i + 1)) = omega arith in
+          resumes-step _ ran (rw one at (stepping .resumes))
+
+      pub steps-on : white ≡ true → length after ≡ length marks → Stepping marks₀ after (i + 1)
+      steps-on e kept =
+          let next : x + i + 1 ≡ x + (i + 1) = omega arith in
+          record { few = omega arith; sized = kept ∙ stepping .sized; resumes = rw next at (resumes-then _ _ e step) }
+
+      pub steps-stop : white ≡ false → Ran (steps test n x) words marks₀ (x + i) after
+      steps-stop e = resumes-end (ran-done (x + i)) (resumes-else _ _ e step)
+
+    pub steps-over : n ≤ i → Ran (steps test n x) words marks₀ (x + n) marks
+    unfolding steps
+    steps-over h =
+        let all : i ≡ n = omega (arith, stepping .few) in
+        let none : n - n ≡ 0 = omega arith in
+        resumes-end (ran-done (x + n)) (rw none at (rw all at (stepping .resumes)))
+
+-- ---- steps of the walk to the right
+module _ (words : List ℕ) (shape : Shape) (center : PointU) (angle : Angle) where
+  abbrev from : ℕ → ℕ → Reads ℕ
+  from = rightFrom shape center angle
+
+  -- ---- the first n steps of n + k: the other k follow, or the walk has ended
+  pub data Joined (n k x y : ℕ) (after : List ℕ) (whole : Reads ℕ) (before : List ℕ) : Type 0 where
+    follow : y ≡ x + n → Resumes words (from k y) after whole before → Joined n k x y after whole before
+    ended : y < x + n → Ran whole words before y after → Joined n k x y after whole before
+
+  -- a run of which no step is left has this result, and these marks
+  none-left : {part : Reads ℕ} {before m after : List ℕ} {x y : ℕ} → Ran part words before y after → Resumes words (done x) m part before
+      → (y ≡ x) × (after ≡ m)
+  none-left {x = x} ran rest = let end = resumes-end (ran-done x) rest in (ran .result ∙ sym (end .result), ran .marked ∙ sym (end .marked))
+
+  joined-next : (n k x : ℕ) {y : ℕ} {whole : Reads ℕ} {before after : List ℕ} → Joined n k (x + 1) y after whole before
+      → Joined (suc n) k x y after whole before
+  joined-next n k x (follow e rest) = follow (omega (arith, e)) rest
+  joined-next n k x (ended less end) = ended (omega (arith, less)) end
+
+  module _ (k : ℕ) {whole part : Reads ℕ} {before before′ after : List ℕ} {y : ℕ} (ran : Ran part words before′ y after) where
+    join-step : (n x : ℕ)
+        → ((m : List ℕ) → Resumes words (from n (x + 1)) m part before′ → Resumes words (from (n + k) (x + 1)) m whole before
+        → Joined n k (x + 1) y after whole before)
+        → (b : Bool) {m m′ : List ℕ} → Ran (whitePoint shape (walkPoint center angle x)) words m b m′
+        → Resumes words (from (suc n) x) m part before′ → Resumes words (from (suc (n + k)) x) m whole before → Joined (suc n) k x y after whole before
+    unfolding rightFrom
+    join-step n x rest true {m′ = m′} white first all =
+        joined-next n k x
+        (rest m′ (resumes-step (next shape center angle words n x) white first) (resumes-step (next shape center angle words (n + k) x) white all))
+    join-step n x rest false white first all =
+        let is = none-left {x = x} ran (resumes-step (next shape center angle words n x) white first) in
+        let end = resumes-end (ran-done x) (resumes-step (next shape center angle words (n + k) x) white all) in
+        ended (omega (arith, is .0)) (rw (is .0, is .1) end)
+
+    pub join : (n x : ℕ) (m : List ℕ) → Resumes words (from n x) m part before′ → Resumes words (from (n + k) x) m whole before
+        → Joined n k x y after whole before
+    unfolding rightFrom
+    join zero x m first all =
+        let is = none-left ran first in
+        let none : 0 + k ≡ k = omega arith in
+        follow (omega (arith, is .0)) (rw (is .0, is .1) (rw none at all))
+    join (suc n) x m first all =
+        let p = whitePoint shape (walkPoint center angle x) in
+        let more : suc n + k ≡ suc (n + k) = omega arith in
+        let white : Ran p words m (valueOf p words) (marksOf p words m) = record { result = refl; marked = refl } in
+        join-step n x (join n (x + 1)) (valueOf p words) white first (rw more at all)
+
+  -- ---- no step goes past a column whose point is not white
+  module _ (limit : ℕ) (stop : whiteAt shape center angle words limit ≡ false) where
+    within-step : (n x : ℕ) → x ≤ limit → (x + 1 ≤ limit → valueOf (from n (x + 1)) words ≤ limit) → (b : Bool) → whiteAt shape center angle words x ≡ b
+        → valueOf (from (suc n) x) words ≤ limit
+    unfolding valueOf value
+    within-step n x h later true e = elim (eq-or-lt-of-le h) [
+      | inl last ↦ absurd (true≢false (sym e ∙ ap (whiteAt shape center angle words) last ∙ stop))
+      | inr more ↦ rw (from-step shape center angle words n x e) (later (omega (arith, more)))
+    ]
+    within-step n x h later false e = rw (from-step shape center angle words n x e) h
+
+    pub within : (n x : ℕ) → x ≤ limit → valueOf (from n x) words ≤ limit
+    unfolding rightFrom valueOf value
+    within zero x h = h
+    within (suc n) x h = within-step n x h (within n (x + 1)) (whiteAt shape center angle words x) refl
+
+  -- ---- steps from column x on, no further than to the column where the sine has ended the walk, with the steps left there
+  abbrev limit : ℕ
+  limit = center .x + stepsRight shape angle
+
+  module _ (limits : Limits shape) (inside : Inside shape (center .x) (center .y)) (of : OfDegree angle) where
+    pub kept-near : (n x : ℕ) {y : ℕ} {marks after : List ℕ} → x ≤ limit → Ran (from n x) words marks y after → y ≤ limit
+    kept-near n x h ran = rw (ran .result) (within limit (walk-stops limits center inside of words) n x h)
+
+    module _ {before marks after : List ℕ} {whole : Reads ℕ} (n x : ℕ) {y : ℕ} (h : x ≤ limit) (few : n ≤ 2 ^ 10)
+        (resumes : Resumes words (from (stepsLeft center x) x) marks whole before) (ran : Ran (from n x) words marks y after) where
+      joined : Joined n (stepsLeft center x - n) x y after whole before
+      joined =
+          let all : stepsLeft center x ≡ n + (stepsLeft center x - n) = omega (arith, steps-few of limits) in
+          join (stepsLeft center x - n) ran n x marks resumes-start (rw all at resumes)
+
+      pub stopped : y < x + n → Ran whole words before y after
+      stopped less = go joined
+        where
+          go : Joined n (stepsLeft center x - n) x y after whole before → Ran whole words before y after
+          go (follow e rest) = absurd (omega arith)
+          go (ended l end) = end
+
+      pub resumed : x + n ≤ y → Resumes words (from (stepsLeft center y) y) after whole before
+      resumed more = go joined
+        where
+          go : Joined n (stepsLeft center x - n) x y after whole before → Resumes words (from (stepsLeft center y) y) after whole before
+          go (ended l end) = absurd (omega arith)
+          go (follow e rest) =
+              let same : stepsLeft center x - n ≡ stepsLeft center y = omega arith in
+              rw same at rest
