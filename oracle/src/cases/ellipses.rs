@@ -90,7 +90,7 @@ pub fn calls(random: &mut Random, id: usize, file: &[u8]) -> Vec<String> {
     let mut calls = vec![
         format!("search file={id} unpack={n} marks={n} records=480 ellipse=1"),
         format!("search words={id} marks={n} records=16000 ellipse=1"),
-        format!("search words={id} marks={n} records=16000 ellipse=0"),
+        format!("search words={id} marks={n} records=16000"),
     ];
     calls.extend((0..MORE).map(|_| changed(random, id, file)));
     calls
