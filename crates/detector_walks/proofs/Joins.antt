@@ -1,4 +1,4 @@
--- So many steps of a walk to the right, from a column on: the loop that takes them, and how they are joined to the whole walk. Assumes nothing.
+-- So many steps of a walk, from a column on: the loop that takes them, and how they are joined to the whole walk. Assumes nothing.
 use Prim.Native.Nat.{ℕ, zero, suc, _+_, _-_, _^_, _≤_, _<_}
 use native.Mathlib.Nat.{eq-or-lt-of-le}
 use native.Mathlib.Omega.{arith}
@@ -15,18 +15,12 @@ use Rattle.bit_matrix.specs.declared.Shape.{Shape}
 use Rattle.bit_matrix.specs.ShapeClauses.{Limits, Inside}
 use Rattle.sines.specs.declared.Angle.{Angle}
 use Rattle.rxing_result_point.specs.declared.PointU.{PointU}
-use Rattle.detector_walks.specs.Walks.{walkPoint, whitePoint, rightFrom}
-use Rattle.detector_walks.specs.WalksClauses.{OfDegree, stepsLeft}
+use Rattle.detector_walks.specs.Walks.{walkPoint, whitePoint, leftFrom, rightFrom}
+use Rattle.detector_walks.specs.WalksClauses.{OfDegree, steps, whiteBack, stepsLeft}
 use Rattle.detector_walks.specs.StepsLaws.{stepsRight, steps-few}
 use Rattle.detector_walks.specs.WalksLaws.{whiteAt, next, from-step, walk-stops}
 
--- ---- steps by any test of a column
-module _ (test : ℕ → Reads Bool) where
-  pub steps : ℕ → ℕ → Reads ℕ
-  steps zero x = done x
-  steps (suc n) x = test x >>= λ (white : Bool). cond white (steps n (x + 1)) (done x)
-
--- tests that are the same of each column take the same steps
+-- ---- tests that are the same of each column take the same steps
 pub same-steps : (test test′ : ℕ → Reads Bool) (n x : ℕ) → ((i : ℕ) → i < n → test (x + i) ≡ test′ (x + i)) → steps test n x ≡ steps test′ n x
 unfolding steps
 same-steps test test′ zero x same = refl
@@ -79,6 +73,27 @@ module _ (words : List ℕ) (test : ℕ → Reads Bool) (n x : ℕ) where
         let all : i ≡ n = omega (arith, stepping .few) in
         let none : n - n ≡ 0 = omega arith in
         resumes-end (ran-done (x + n)) (rw none at (rw all at (stepping .resumes)))
+
+-- the same, counted from 0
+module _ (words : List ℕ) (test : ℕ → Reads Bool) (n : ℕ) {marks₀ marks : List ℕ} {i : ℕ} (stepping : Stepping words test n 0 marks₀ marks i) where
+  module _ {white : Bool} {after : List ℕ} (more : i < n) (ran : Ran (test i) words marks white after) where
+    here : Ran (test (0 + i)) words marks white after
+    here =
+        let same : 0 + i ≡ i = omega arith in
+        rw same ran
+
+    pub count-on : white ≡ true → length after ≡ length marks → Stepping words test n 0 marks₀ after (i + 1)
+    count-on e kept = steps-on words test n 0 stepping more here e kept
+
+    pub count-stop : white ≡ false → Ran (steps test n 0) words marks₀ i after
+    count-stop e =
+        let same : 0 + i ≡ i = omega arith in
+        rw same at (steps-stop words test n 0 stepping more here e)
+
+  pub count-over : n ≤ i → Ran (steps test n 0) words marks₀ n marks
+  count-over h =
+      let same : 0 + n ≡ n = omega arith in
+      rw same at (steps-over words test n 0 stepping h)
 
 -- ---- steps of the walk to the right
 module _ (words : List ℕ) (shape : Shape) (center : PointU) (angle : Angle) where
@@ -174,3 +189,78 @@ module _ (words : List ℕ) (shape : Shape) (center : PointU) (angle : Angle) wh
           go (follow e rest) =
               let same : stepsLeft center x - n ≡ stepsLeft center y = omega arith in
               rw same at rest
+
+  -- ---- steps of the walk to the left, from column x on: the rest follows, or the walk has ended
+  pub data JoinedBack (x n i k : ℕ) (after : List ℕ) (whole : Reads ℕ) (before : List ℕ) : Type 0 where
+    follow-back : k ≡ i + n → Resumes words (leftFrom shape center angle (x - k)) after whole before → JoinedBack x n i k after whole before
+    ended-back : k < i + n → Ran whole words before (x - k) after → JoinedBack x n i k after whole before
+
+  abbrev test : ℕ → ℕ → Reads Bool
+  test = whiteBack shape center angle
+
+  joined-back : (x n i : ℕ) {k : ℕ} {whole : Reads ℕ} {before after : List ℕ} → JoinedBack x n (i + 1) k after whole before
+      → JoinedBack x (suc n) i k after whole before
+  joined-back x n i (follow-back e rest) = follow-back (omega (arith, e)) rest
+  joined-back x n i (ended-back less end) = ended-back (omega (arith, less)) end
+
+  module _ (x : ℕ) {whole part : Reads ℕ} {before before′ after : List ℕ} {k : ℕ} (ran : Ran part words before′ k after) where
+    join-back-step : (n i : ℕ) → i + suc n ≤ x
+        → ((m : List ℕ) → Resumes words (steps (test x) n (i + 1)) m part before′ → Resumes words (leftFrom shape center angle (x - (i + 1))) m whole before
+        → JoinedBack x n (i + 1) k after whole before)
+        → (b : Bool) {m m′ : List ℕ} → Ran (test x i) words m b m′
+        → Resumes words (steps (test x) (suc n) i) m part before′ → Resumes words (leftFrom shape center angle (x - i)) m whole before
+        → JoinedBack x (suc n) i k after whole before
+    unfolding steps leftFrom
+    join-back-step n i h rest true {m′ = m′} white first all =
+        let y = x - (i + 1) in
+        let back : x - i ≡ suc y = omega arith in
+        joined-back x n i
+        (rest m′ (resumes-step (λ (w : Bool). cond w (steps (test x) n (i + 1)) (done i)) white first)
+        (resumes-step (λ (w : Bool). cond w (leftFrom shape center angle y) (done (suc y))) (rw back at white) (rw back at all)))
+    join-back-step n i h rest false white first all =
+        let y = x - (i + 1) in
+        let back : x - i ≡ suc y = omega arith in
+        let is = none-left {x = i} ran (resumes-step (λ (w : Bool). cond w (steps (test x) n (i + 1)) (done i)) white first) in
+        let end = resumes-end (ran-done (suc y)) (resumes-step (λ (w : Bool). cond w (leftFrom shape center angle y) (done (suc y)))
+        (rw back at white) (rw back at all)) in
+        ended-back (omega (arith, is .0)) (rw (is .0, is .1, back) end)
+
+    pub join-back : (n i : ℕ) → i + n ≤ x → (m : List ℕ) → Resumes words (steps (test x) n i) m part before′
+        → Resumes words (leftFrom shape center angle (x - i)) m whole before → JoinedBack x n i k after whole before
+    unfolding steps
+    join-back zero i h m first all =
+        let is = none-left ran first in
+        follow-back (omega (arith, is .0)) (rw (is .0, is .1) all)
+    join-back (suc n) i h m first all =
+        let p = test x i in
+        let white : Ran p words m (valueOf p words) (marksOf p words m) = record { result = refl; marked = refl } in
+        join-back-step n i h (join-back n (i + 1) (omega arith)) (valueOf p words) white first all
+
+  module _ {before marks after : List ℕ} {whole : Reads ℕ} (n x : ℕ) {k : ℕ} (room : n ≤ x)
+      (resumes : Resumes words (leftFrom shape center angle x) marks whole before) (ran : Ran (steps (test x) n 0) words marks k after) where
+    joined-at : JoinedBack x n 0 k after whole before
+    joined-at =
+        let here : x - 0 ≡ x = omega arith in
+        join-back x ran n 0 (omega arith) marks resumes-start (rw here resumes)
+
+    pub stopped-back : k < n → Ran whole words before (x - k) after
+    stopped-back less = go joined-at
+      where
+        go : JoinedBack x n 0 k after whole before → Ran whole words before (x - k) after
+        go (follow-back e rest) = absurd (omega arith)
+        go (ended-back l end) = end
+
+    pub resumed-back : n ≤ k → Resumes words (leftFrom shape center angle (x - k)) after whole before
+    resumed-back more = go joined-at
+      where
+        go : JoinedBack x n 0 k after whole before → Resumes words (leftFrom shape center angle (x - k)) after whole before
+        go (ended-back l end) = absurd (omega arith)
+        go (follow-back e rest) = rest
+
+  -- no more steps are taken than there are
+  pub taken-most : (n x : ℕ) {k : ℕ} {marks after : List ℕ} → n ≤ x → Ran (steps (whiteBack shape center angle x) n 0) words marks k after → k ≤ n
+  taken-most n x {k} {marks} {after} room ran = go (joined-at n x room resumes-start ran)
+    where
+      go : JoinedBack x n 0 k after (leftFrom shape center angle x) marks → k ≤ n
+      go (follow-back e rest) = omega arith
+      go (ended-back l end) = omega arith

@@ -1,5 +1,5 @@
--- `Level` says what a walk's point is made of, without the terms that are zero, `Looks` what a step looks at, `Joins` how so many steps to the right are
--- joined to a walk.
+-- `Level` says what a walk's point is made of, without the terms that are zero, `Looks` what a step looks at, `Joins` how so many steps are joined to a
+-- walk.
 pub mod Level
 pub mod Looks
 pub mod Joins

@@ -1,16 +1,19 @@
 -- What the clauses of functions name. Assumes nothing.
-use Prim.Native.Nat.{ℕ, _+_, _-_, _^_, _<_}
+use Prim.Native.Nat.{ℕ, zero, suc, _+_, _-_, _^_, _<_}
+use mathlib.Core.Bool.{Bool, cond}
 use mathlib.Core.List.{List}
 use mathlib.Core.Path.{_≡_}
 use lib.ListN.{length, getD}
 use lib.Ieee.{Float, binary32, add, mul, toUnsigned}
 use Rattle.ieee.specs.Sign.{abs}
+use Rattle.reads.specs.Reads.{Reads, done, _>>=_}
 use Rattle.bit_matrix.specs.declared.Shape.{Shape}
 use Rattle.bit_matrix.specs.ShapeClauses.{Image, Inside}
 use Rattle.sines.specs.declared.Angle.{Angle}
 use Rattle.sines.specs.Sines.{sines, angleOf}
 use Rattle.rxing_result_point.specs.declared.PointU.{PointU}
 use Rattle.rxing_result_point.specs.Points.{real, past}
+use Rattle.detector_walks.specs.Walks.{walkPoint, whitePoint}
 
 -- what a step about a centre is lent: an image, a centre inside it, and the table of sines
 pub record Lent (shape : Shape) (words marks : List ℕ) (center : PointU) (table : List Float) : Type 0 where
@@ -31,6 +34,16 @@ cellAt factor c from x = toUnsigned 32 (abs (add binary32 (mul binary32 factor (
 pub record Along (factor : Float) (c from x n : ℕ) (cells : List ℕ) : Type 0 where
   pub all : length cells ≡ 32
   pub at : (i : ℕ) → i < n → getD cells i 0 ≡ cellAt factor c from (x + i)
+
+-- n steps by a test, from x on: the first number of which it does not hold, or x + n
+module _ (test : ℕ → Reads Bool) where
+  unfoldable pub steps : ℕ → ℕ → Reads ℕ
+  steps zero x = done x
+  steps (suc n) x = test x >>= λ (white : Bool). cond white (steps n (x + 1)) (done x)
+
+-- the test of the point i columns to the left of column x
+abbrev pub whiteBack : Shape → PointU → Angle → ℕ → ℕ → Reads Bool
+whiteBack shape center angle x i = whitePoint shape (walkPoint center angle (x - i))
 
 -- the steps that the walk to the right may still take in column x
 abbrev pub stepsLeft : PointU → ℕ → ℕ

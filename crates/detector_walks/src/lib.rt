@@ -11,8 +11,8 @@ ghost use Rattle.reads.specs.RunsClauses.{Ran};
 ghost use Rattle.bit_matrix.specs.ShapeClauses.{Image, Inside};
 ghost use Rattle.ieee.specs.Sign.{abs};
 ghost use Rattle.ieee.specs.BetweenLaws.{Between};
-ghost use Rattle.detector_walks.specs.Walks.{walkPoint, whitePixel, whitePoint, rightFrom, walk, widthOf, findWidthAtDegree};
-ghost use Rattle.detector_walks.specs.WalksClauses.{OfDegree, Along, stepsLeft, Lent};
+ghost use Rattle.detector_walks.specs.Walks.{walkPoint, whitePixel, whitePoint, leftFrom, rightFrom, walk, widthOf, findWidthAtDegree};
+ghost use Rattle.detector_walks.specs.WalksClauses.{OfDegree, Along, steps, whiteBack, stepsLeft, Lent};
 ghost use Rattle.detector_walks.specs.StepsLaws.{stepsRight};
 
 // What the two walks at a degree come to: how many steps they took together, and the points where they end.
@@ -65,12 +65,19 @@ fn walk_point(center: PointU, angle: Angle, x: u32) -> Point
     rxing_result_point::turn(center, PointU { x, y }, angle)
 }
 
-// The column where the walk to the left ends. Column 0 is looked at too, before the test that ends the walk there.
-fn walk_left(words: &[u64], marks: &mut [u64], shape: Shape, center: PointU, angle: Angle) -> u32
-    requires { ⌜ Image shape (now words) (now marks) × Inside shape (center .x) (center .y) × OfDegree angle ⌝ }
-    ensures { λ r. ⌜ Ran (walk shape center angle true) (now (words .entry)) (now (marks .entry)) r (now (marks .exit)) ⌝ }
+// The column where the walk to the left from column x ends. Column 0 is looked at too, before the test that ends the walk there.
+fn back(
+    words: &[u64],
+    marks: &mut [u64],
+    shape: Shape,
+    center: PointU,
+    angle: Angle,
+    first: u32,
+) -> u32
+    requires { ⌜ Image shape (now words) (now marks) × Inside shape (center .x) (center .y) × (first < 2 ^ 11) × OfDegree angle ⌝ }
+    ensures { λ r. ⌜ Ran (leftFrom shape center angle first) (now (words .entry)) (now (marks .entry)) r (now (marks .exit)) ⌝ }
 {
-    let mut x = center.x;
+    let mut x = first;
     while goes_on(words, marks, shape, center, angle, x) {
         if x == 0 {
             return x;
@@ -78,6 +85,29 @@ fn walk_left(words: &[u64], marks: &mut [u64], shape: Shape, center: PointU, ang
         x -= 1;
     }
     x
+}
+
+// How many of 16 steps to the left from column x the walk takes, one by one: where most walks end.
+fn step_back(
+    words: &[u64],
+    marks: &mut [u64],
+    shape: Shape,
+    center: PointU,
+    angle: Angle,
+    x: u32,
+) -> u32
+    requires { ⌜ Image shape (now words) (now marks) × Inside shape (center .x) (center .y) × (16 ≤ x) × (x < 2 ^ 11) × OfDegree angle ⌝ }
+    ensures { λ r. ⌜ Ran (steps (whiteBack shape center angle x) 16 0) (now (words .entry)) (now (marks .entry)) r (now (marks .exit)) ⌝ }
+{
+    let mut i = 0u32;
+    while i < 16 {
+        if goes_on(words, marks, shape, center, angle, x - i) {
+            i += 1;
+        } else {
+            return i;
+        }
+    }
+    16
 }
 
 // The column where the walk to the right from column x ends within 16 steps, taken one by one: where most walks end.
@@ -144,6 +174,70 @@ fn stride_on(
         }
     }
     x + 32
+}
+
+// How many of 32 steps to the left from column x the walk takes.
+fn stride_back(
+    words: &[u64],
+    marks: &mut [u64],
+    shape: Shape,
+    center: PointU,
+    angle: Angle,
+    x: u32,
+) -> u32
+    requires { ⌜ Image shape (now words) (now marks) × Inside shape (center .x) (center .y) × (32 ≤ x) × (x < 2 ^ 11) × OfDegree angle ⌝ }
+    ensures { λ r. ⌜ Ran (steps (whiteBack shape center angle x) 32 0) (now (words .entry)) (now (marks .entry)) r (now (marks .exit)) ⌝ }
+{
+    let columns = along(angle.cos, center.x, center.x, x - 31);
+    let rows = along(angle.sin, center.x, center.y, x - 31);
+    let mut i = 0usize;
+    while i < 32 {
+        if is_white(words, marks, shape, columns[31 - i], rows[31 - i]) {
+            i += 1;
+        } else {
+            return i as u32;
+        }
+    }
+    32
+}
+
+// The column where the walk to the left ends, by strides from a column on, and one by one where there is no room for a stride.
+fn strides_back(
+    words: &[u64],
+    marks: &mut [u64],
+    shape: Shape,
+    center: PointU,
+    angle: Angle,
+    first: u32,
+) -> u32
+    requires { ⌜ Image shape (now words) (now marks) × Inside shape (center .x) (center .y) × (first < 2 ^ 11) × OfDegree angle ⌝ }
+    ensures { λ r. ⌜ Ran (leftFrom shape center angle first) (now (words .entry)) (now (marks .entry)) r (now (marks .exit)) ⌝ }
+{
+    let mut x = first;
+    while x >= 32 {
+        let taken = stride_back(words, marks, shape, center, angle, x);
+        x -= taken;
+        if taken < 32 {
+            return x;
+        }
+    }
+    back(words, marks, shape, center, angle, x)
+}
+
+// The column where the walk to the left ends: a few steps one by one, then strides.
+fn walk_left(words: &[u64], marks: &mut [u64], shape: Shape, center: PointU, angle: Angle) -> u32
+    requires { ⌜ Image shape (now words) (now marks) × Inside shape (center .x) (center .y) × OfDegree angle ⌝ }
+    ensures { λ r. ⌜ Ran (walk shape center angle true) (now (words .entry)) (now (marks .entry)) r (now (marks .exit)) ⌝ }
+{
+    let x = center.x;
+    if x < 16 {
+        return back(words, marks, shape, center, angle, x);
+    }
+    let taken = step_back(words, marks, shape, center, angle, x);
+    if taken < 16 {
+        return x - taken;
+    }
+    strides_back(words, marks, shape, center, angle, x - taken)
 }
 
 // The column where the walk to the right ends, by strides from a column on. The sine tells where it has ended at the latest.

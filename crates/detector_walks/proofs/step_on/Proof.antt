@@ -10,7 +10,8 @@ use Rattle.bit_matrix.specs.declared.Shape.{Shape}
 use Rattle.sines.specs.declared.Angle.{Angle}
 use Rattle.rxing_result_point.specs.declared.PointU.{PointU}
 use Rattle.detector_walks.specs.Walks.{walkPoint, whitePoint, rightFrom}
-use Rattle.detector_walks.proofs.Joins.{steps, right-steps, Stepping, steps-begin, steps-on, steps-stop, steps-over}
+use Rattle.detector_walks.specs.WalksClauses.{steps}
+use Rattle.detector_walks.proofs.Joins.{right-steps, Stepping, steps-begin, steps-on, steps-stop, steps-over}
 use Rattle.detector_walks.proofs.step_on.Statement.{statement}
 use Rattle.detector_walks.proofs.step_on.Tie as tie
 

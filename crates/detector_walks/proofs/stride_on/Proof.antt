@@ -14,9 +14,9 @@ use Rattle.bit_matrix.specs.ShapeClauses.{Limits, Inside}
 use Rattle.sines.specs.declared.Angle.{Angle}
 use Rattle.rxing_result_point.specs.declared.PointU.{PointU}
 use Rattle.detector_walks.specs.Walks.{walkPoint, whitePixel, whitePoint, rightFrom}
-use Rattle.detector_walks.specs.WalksClauses.{OfDegree, Along}
+use Rattle.detector_walks.specs.WalksClauses.{OfDegree, Along, steps}
 use Rattle.detector_walks.proofs.Looks.{left, high, sine-size, cosine-size, looks-at}
-use Rattle.detector_walks.proofs.Joins.{steps, same-steps, right-steps, Stepping, steps-begin, steps-on, steps-stop, steps-over}
+use Rattle.detector_walks.proofs.Joins.{same-steps, right-steps, Stepping, steps-begin, steps-on, steps-stop, steps-over}
 use Rattle.detector_walks.proofs.stride_on.Statement.{statement}
 use Rattle.detector_walks.proofs.stride_on.Tie as tie
 
@@ -31,8 +31,8 @@ looked shape x i columns rows ran =
     rw here ran
 
 module _ {shape : Shape} {center : PointU} {angle : Angle} {x : ℕ} {columns rows : List ℕ} (limits : Limits shape)
-    (inside : Inside shape (center .x) (center .y)) (of : OfDegree angle) (few : x < 2 ^ 20 + 2 ^ 12) (across : Along (angle .cos) (center .x) (center .x) x 32 columns)
-    (down : Along (angle .sin) (center .x) (center .y) x 32 rows) where
+    (inside : Inside shape (center .x) (center .y)) (of : OfDegree angle) (few : x < 2 ^ 20 + 2 ^ 12)
+    (across : Along (angle .cos) (center .x) (center .x) x 32 columns) (down : Along (angle .sin) (center .x) (center .y) x 32 rows) where
   same-test : (i : ℕ) → i < 32 → listed shape x columns rows (x + i) ≡ whitePoint shape (walkPoint center angle (x + i))
   same-test i h =
       let here : x + i - x ≡ i = omega arith in

@@ -1,105 +1,88 @@
--- `detector_walks::walk_left` meets its contract. The invariant is `Walking`: from the present column, what is left of the definition ends as the whole does.
--- The measure is the column. Assumes nothing.
-use Prim.Native.Nat.{ℕ, suc, _-_, _^_, _≤_, _<_}
-use mathlib.Core.Bool.{Bool, true, false, cond}
+-- `detector_walks::walk_left` meets its contract: the first steps, and the strides that follow unless they have ended the walk. Assumes nothing.
+use Prim.Native.Nat.{ℕ, _-_, _^_, _≤_, _<_}
+use mathlib.Core.Bool.{true}
 use mathlib.Core.List.{List}
-use mathlib.Core.Logic.{_≢_}
-use mathlib.Core.Path.{_≡_, _∙_}
-use native.Mathlib.Decide.{ℕ-discrete}
 use native.Mathlib.Omega.{arith}
 use borrow.Author.Needs.{needs}
-use lib.ListN.{length}
-use Rattle.reads.specs.Reads.{done}
-use Rattle.reads.specs.RunsClauses.{Ran, Resumes}
-use Rattle.reads.specs.RunsLaws.{ran-done, ran-is, resumes-start, resumes-step, resumes-then, resumes-else, resumes-end}
+use Rattle.reads.specs.RunsClauses.{Ran}
+use Rattle.reads.specs.RunsLaws.{resumes-start, resumes-end}
 use Rattle.bit_matrix.specs.declared.Shape.{Shape}
 use Rattle.bit_matrix.specs.ShapeClauses.{Limits, Inside}
 use Rattle.sines.specs.declared.Angle.{Angle}
 use Rattle.rxing_result_point.specs.declared.PointU.{PointU}
-use Rattle.detector_walks.specs.Walks.{walkPoint, whitePoint, leftFrom, walk}
+use Rattle.detector_walks.specs.Walks.{leftFrom, walk}
+use Rattle.detector_walks.specs.WalksClauses.{steps, whiteBack}
+use Rattle.detector_walks.proofs.Looks.{left}
+use Rattle.detector_walks.proofs.Joins.{stopped-back, resumed-back, taken-most}
 use Rattle.detector_walks.proofs.walk_left.Statement.{statement}
 use Rattle.detector_walks.proofs.walk_left.Tie as tie
 
-module _ (words : List ℕ) (shape : Shape) (center : PointU) (angle : Angle) where
-  record Walking (marks₀ marks : List ℕ) (x : ℕ) : Type 0 where
-    sized : length marks ≡ length words
-    low : x ≤ 2 ^ 21
-    resumes : Resumes words (leftFrom shape center angle x) marks (walk shape center angle true) marks₀
+low-back : {shape : Shape} {center : PointU} (k : ℕ) → Limits shape → Inside shape (center .x) (center .y) → center .x - k < 2 ^ 11
+low-back k limits inside = omega (arith, left limits inside)
 
-  begins : {marks : List ℕ} → Limits shape → Inside shape (center .x) (center .y) → length marks ≡ length words → Walking marks marks (center .x)
+module _ {words : List ℕ} (shape : Shape) (center : PointU) (angle : Angle) {marks after : List ℕ} {k : ℕ} where
+  whole : Ran (leftFrom shape center angle (center .x)) words marks k after → Ran (walk shape center angle true) words marks k after
   unfolding walk
-  begins limits inside same = record { sized = same; low = omega (arith, limits .width-most, inside .column); resumes = resumes-start }
+  whole ran = ran
 
-  module _ {marks₀ marks : List ℕ} {x : ℕ} {white : Bool} {after : List ℕ} (walking : Walking marks₀ marks x)
-      (ran : Ran (whitePoint shape (walkPoint center angle x)) words marks white after) where
-    ends-at-0 : x ≡ 0 → Ran (walk shape center angle true) words marks₀ x after
-    unfolding leftFrom
-    ends-at-0 none = resumes-end (ran-is none) (resumes-step _ (rw none at ran) (rw none at (walking .resumes)))
+  module _ (room : 16 ≤ center .x) (ran : Ran (steps (whiteBack shape center angle (center .x)) 16 0) words marks k after) where
+    enough : k ≤ center .x
+    enough = omega (arith, taken-most words shape center angle 16 (center .x) room ran)
 
-    step : x ≢ 0 → Resumes words (cond white (leftFrom shape center angle (x - 1)) (done x)) after (walk shape center angle true) marks₀
-    unfolding leftFrom
-    step some =
-        let back : x ≡ suc (x - 1) = omega arith in
-        rw (← back) at (resumes-step _ (rw back at ran) (rw back at (walking .resumes)))
+    ends-soon : k < 16 → Ran (walk shape center angle true) words marks (center .x - k) after
+    unfolding walk
+    ends-soon less = stopped-back words shape center angle 16 (center .x) room resumes-start ran less
 
-    stops : white ≡ false → Ran (walk shape center angle true) words marks₀ x after
-    stops e = go (ℕ-discrete x 0)
-      where
-        go : Dec (x ≡ 0) → Ran (walk shape center angle true) words marks₀ x after
-        go (yes none) = ends-at-0 none
-        go (no some) = resumes-end (ran-done x) (resumes-else _ _ e (step some))
+    ends-later : {last : List ℕ} {r : ℕ} → 16 ≤ k → Ran (leftFrom shape center angle (center .x - k)) words after r last
+        → Ran (walk shape center angle true) words marks r last
+    unfolding walk
+    ends-later more strides = resumes-end strides (resumed-back words shape center angle 16 (center .x) room resumes-start ran more)
 
-    onward : x ≢ 0 → white ≡ true → length after ≡ length marks → Walking marks₀ after (x - 1)
-    onward some e kept = record { sized = kept ∙ walking .sized; low = omega (arith, walking .low); resumes = resumes-then _ _ e (step some) }
+back-requires : tie.Need-back-requires
+back-requires c κs = search (left, needs)
 
-fewer : {x : ℕ} → x ≢ 0 → x - 1 < x
-fewer some = omega arith
-
-abbrev Inv-loop : tie.InvT-loop
-Inv-loop words marks₀ shape center angle x₀ marks x = Walking words shape center angle marks₀ marks x
-
-abbrev μ-loop : tie.MeasureT-loop
-μ-loop words marks₀ shape center angle x₀ marks x = x
-
-loop-holds : tie.Need-loop-holds Inv-loop μ-loop
-loop-holds c = search begins
-
-goes-on-requires : tie.Need-goes-on-requires Inv-loop μ-loop
-goes-on-requires c κs = search needs
-
-same-length : tie.Need-same-length Inv-loop μ-loop
+same-length : tie.Need-same-length
 same-length c = search needs
 
-returns : tie.Need-returns Inv-loop μ-loop
-returns c = search ends-at-0
+returns : tie.Need-returns
+returns c = search (whole, needs)
 
-sub-x : tie.Need-sub-x Inv-loop μ-loop
-sub-x c = search needs
+step-back-requires : tie.Need-step-back-requires
+step-back-requires c κs = search (left, needs)
 
-loop-less : tie.Need-loop-less Inv-loop μ-loop
-loop-less c = search fewer
+sub-result : tie.Need-sub-result
+sub-result c = search (enough, needs)
 
-loop-again : tie.Need-loop-again Inv-loop μ-loop
-loop-again c = search onward
-
-same-length-2 : tie.Need-same-length-2 Inv-loop μ-loop
+same-length-2 : tie.Need-same-length-2
 same-length-2 c = search needs
 
-returns-2 : tie.Need-returns-2 Inv-loop μ-loop
-returns-2 c = search stops
+returns-2 : tie.Need-returns-2
+returns-2 c = search (ends-soon, needs)
+
+sub-strides-back : tie.Need-sub-strides-back
+sub-strides-back c = search (enough, needs)
+
+strides-back-requires : tie.Need-strides-back-requires
+strides-back-requires c κs = search (low-back, needs)
+
+same-length-3 : tie.Need-same-length-3
+same-length-3 c = search needs
+
+returns-3 : tie.Need-returns-3
+returns-3 c = search (ends-later, needs)
 
 pub walk-left-spec : {M : Type 1} → statement M
 walk-left-spec =
     tie.close
     (tie.spec
-    Inv-loop
-    μ-loop
-    loop-holds
-    goes-on-requires
+    back-requires
     same-length
     returns
-    sub-x
-    loop-less
-    loop-again
+    step-back-requires
+    sub-result
     same-length-2
-    returns-2)
+    returns-2
+    sub-strides-back
+    strides-back-requires
+    same-length-3
+    returns-3)
