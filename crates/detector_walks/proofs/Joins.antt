@@ -16,7 +16,7 @@ use Rattle.bit_matrix.specs.ShapeClauses.{Limits, Inside}
 use Rattle.sines.specs.declared.Angle.{Angle}
 use Rattle.rxing_result_point.specs.declared.PointU.{PointU}
 use Rattle.detector_walks.specs.Walks.{walkPoint, whitePoint, leftFrom, rightFrom}
-use Rattle.detector_walks.specs.WalksClauses.{OfDegree, steps, whiteBack, stepsLeft}
+use Rattle.detector_walks.specs.WalksClauses.{OfDegree, steps, whiteBack, stepsRemaining}
 use Rattle.detector_walks.specs.StepsLaws.{stepsRight, steps-few}
 use Rattle.detector_walks.specs.WalksLaws.{whiteAt, next, from-step, walk-stops}
 
@@ -95,12 +95,12 @@ module _ (words : List ℕ) (test : ℕ → Reads Bool) (n : ℕ) {marks₀ mark
       let same : 0 + n ≡ n = omega arith in
       rw same at (steps-over words test n 0 stepping h)
 
--- ---- steps of the walk to the right
+-- ---- steps joined to the walks
 module _ (words : List ℕ) (shape : Shape) (center : PointU) (angle : Angle) where
   abbrev from : ℕ → ℕ → Reads ℕ
   from = rightFrom shape center angle
 
-  -- ---- the first n steps of n + k: the other k follow, or the walk has ended
+  -- ---- the first n of n + k steps to the right: the other k follow, or the walk has ended
   pub data Joined (n k x y : ℕ) (after : List ℕ) (whole : Reads ℕ) (before : List ℕ) : Type 0 where
     follow : y ≡ x + n → Resumes words (from k y) after whole before → Joined n k x y after whole before
     ended : y < x + n → Ran whole words before y after → Joined n k x y after whole before
@@ -168,26 +168,26 @@ module _ (words : List ℕ) (shape : Shape) (center : PointU) (angle : Angle) wh
     kept-near n x h ran = rw (ran .result) (within limit (walk-stops limits center inside of words) n x h)
 
     module _ {before marks after : List ℕ} {whole : Reads ℕ} (n x : ℕ) {y : ℕ} (h : x ≤ limit) (few : n ≤ 2 ^ 10)
-        (resumes : Resumes words (from (stepsLeft center x) x) marks whole before) (ran : Ran (from n x) words marks y after) where
-      joined : Joined n (stepsLeft center x - n) x y after whole before
+        (resumes : Resumes words (from (stepsRemaining center x) x) marks whole before) (ran : Ran (from n x) words marks y after) where
+      joined : Joined n (stepsRemaining center x - n) x y after whole before
       joined =
-          let all : stepsLeft center x ≡ n + (stepsLeft center x - n) = omega (arith, steps-few of limits) in
-          join (stepsLeft center x - n) ran n x marks resumes-start (rw all at resumes)
+          let all : stepsRemaining center x ≡ n + (stepsRemaining center x - n) = omega (arith, steps-few of limits) in
+          join (stepsRemaining center x - n) ran n x marks resumes-start (rw all at resumes)
 
       pub stopped : y < x + n → Ran whole words before y after
       stopped less = go joined
         where
-          go : Joined n (stepsLeft center x - n) x y after whole before → Ran whole words before y after
+          go : Joined n (stepsRemaining center x - n) x y after whole before → Ran whole words before y after
           go (follow e rest) = absurd (omega arith)
           go (ended l end) = end
 
-      pub resumed : x + n ≤ y → Resumes words (from (stepsLeft center y) y) after whole before
+      pub resumed : x + n ≤ y → Resumes words (from (stepsRemaining center y) y) after whole before
       resumed more = go joined
         where
-          go : Joined n (stepsLeft center x - n) x y after whole before → Resumes words (from (stepsLeft center y) y) after whole before
+          go : Joined n (stepsRemaining center x - n) x y after whole before → Resumes words (from (stepsRemaining center y) y) after whole before
           go (ended l end) = absurd (omega arith)
           go (follow e rest) =
-              let same : stepsLeft center x - n ≡ stepsLeft center y = omega arith in
+              let same : stepsRemaining center x - n ≡ stepsRemaining center y = omega arith in
               rw same at rest
 
   -- ---- steps of the walk to the left, from column x on: the rest follows, or the walk has ended

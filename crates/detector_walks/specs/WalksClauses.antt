@@ -26,14 +26,14 @@ pub record OfDegree (angle : Angle) : Type 0 where
   pub degree : ℕ
   pub is : angle ≡ angleOf degree
 
--- where the point of column x lies along one axis, by its factor and the centre's place there, c being the centre's column
+-- where the point of column x lies along one axis: factor is the cosine or the sine, place the centre's on that axis, c the centre's column
 abbrev pub cellAt : Float → ℕ → ℕ → ℕ → ℕ
-cellAt factor c from x = toUnsigned 32 (abs (add binary32 (mul binary32 factor (past c x)) (real from)))
+cellAt factor c place x = toUnsigned 32 (abs (add binary32 (mul binary32 factor (past c x)) (real place)))
 
 -- the first n of 32 numbers are those of the columns from x on
-pub record Along (factor : Float) (c from x n : ℕ) (cells : List ℕ) : Type 0 where
+pub record Along (factor : Float) (c place x n : ℕ) (cells : List ℕ) : Type 0 where
   pub all : length cells ≡ 32
-  pub at : (i : ℕ) → i < n → getD cells i 0 ≡ cellAt factor c from (x + i)
+  pub at : (i : ℕ) → i < n → getD cells i 0 ≡ cellAt factor c place (x + i)
 
 -- n steps by a test, from x on: the first number of which it does not hold, or x + n
 module _ (test : ℕ → Reads Bool) where
@@ -45,6 +45,6 @@ module _ (test : ℕ → Reads Bool) where
 abbrev pub whiteBack : Shape → PointU → Angle → ℕ → ℕ → Reads Bool
 whiteBack shape center angle x i = whitePoint shape (walkPoint center angle (x - i))
 
--- the steps that the walk to the right may still take in column x
-abbrev pub stepsLeft : PointU → ℕ → ℕ
-stepsLeft center x = center .x + 1 + 2 ^ 20 - x
+-- the steps that the walk to the right may still take from column x on
+abbrev pub stepsRemaining : PointU → ℕ → ℕ
+stepsRemaining center x = center .x + 1 + 2 ^ 20 - x

@@ -12,7 +12,7 @@ ghost use Rattle.bit_matrix.specs.ShapeClauses.{Image, Inside};
 ghost use Rattle.ieee.specs.Sign.{abs};
 ghost use Rattle.ieee.specs.BetweenLaws.{Between};
 ghost use Rattle.detector_walks.specs.Walks.{walkPoint, whitePixel, whitePoint, leftFrom, rightFrom, walk, widthOf, findWidthAtDegree};
-ghost use Rattle.detector_walks.specs.WalksClauses.{OfDegree, Along, steps, whiteBack, stepsLeft, Lent};
+ghost use Rattle.detector_walks.specs.WalksClauses.{OfDegree, Along, steps, whiteBack, stepsRemaining, Lent};
 ghost use Rattle.detector_walks.specs.StepsLaws.{stepsRight};
 
 // What the two walks at a degree come to: how many steps they took together, and the points where they end.
@@ -65,7 +65,7 @@ fn walk_point(center: PointU, angle: Angle, x: u32) -> Point
     rxing_result_point::turn(center, PointU { x, y }, angle)
 }
 
-// The column where the walk to the left from column x ends. Column 0 is looked at too, before the test that ends the walk there.
+// The column where the walk to the left from column `first` ends. Column 0 is looked at too, before the test that ends the walk there.
 fn back(
     words: &[u64],
     marks: &mut [u64],
@@ -87,7 +87,7 @@ fn back(
     x
 }
 
-// How many of 16 steps to the left from column x the walk takes, one by one: where most walks end.
+// How many of 16 steps to the left from column x the walk takes, one by one.
 fn step_back(
     words: &[u64],
     marks: &mut [u64],
@@ -110,7 +110,7 @@ fn step_back(
     16
 }
 
-// The column where the walk to the right from column x ends within 16 steps, taken one by one: where most walks end.
+// The column where the walk to the right from column x ends within 16 steps, taken one by one, or the column after them.
 fn step_on(
     words: &[u64],
     marks: &mut [u64],
@@ -133,25 +133,26 @@ fn step_on(
     x + 16
 }
 
-// Where the points of 32 columns from x on lie along one axis: whole columns with the cosine and the centre's column, whole rows with the sine and its row.
-// Nothing is read in between, so that they are worked out side by side.
-fn along(factor: f32, center_x: u32, from: u32, x: u32) -> [u32; 32]
-    requires { ⌜ Between 0 1 (abs factor) × («center_x» < 2 ^ 11) × (from < 2 ^ 11) × (x < 2 ^ 20 + 2 ^ 12) ⌝ }
-    ensures { λ r. ⌜ Along factor «center_x» from x 32 r ⌝ }
+// Where the points of 32 columns from x on lie along one axis: whole columns with the cosine and the centre's column as its place, whole rows with the
+// sine and the centre's row. Nothing is read in between, so that they are worked out side by side. The remainder changes no column; it tells the compiler
+// that each is below 2 ^ 21, so that the cast to f32 is one operation.
+fn along(factor: f32, center_x: u32, place: u32, x: u32) -> [u32; 32]
+    requires { ⌜ Between 0 1 (abs factor) × («center_x» < 2 ^ 11) × (place < 2 ^ 11) × (x < 2 ^ 20 + 2 ^ 12) ⌝ }
+    ensures { λ r. ⌜ Along factor «center_x» place x 32 r ⌝ }
 {
     let cx = center_x as f32;
-    let c = from as f32;
+    let p = place as f32;
     let mut cells = [0u32; 32];
     let mut i = 0usize;
     while i < 32 {
         let u = ((x + i as u32) % 0x20_0000) as f32 - cx;
-        cells[i] = ieee::abs_small_f32_to_u32(factor * u + c);
+        cells[i] = ieee::abs_small_f32_to_u32(factor * u + p);
         i += 1;
     }
     cells
 }
 
-// The column where the walk to the right from column x ends within 32 steps.
+// The column where the walk to the right from column x ends within 32 steps, or the column after them.
 fn stride_on(
     words: &[u64],
     marks: &mut [u64],
@@ -224,7 +225,7 @@ fn strides_back(
     back(words, marks, shape, center, angle, x)
 }
 
-// The column where the walk to the left ends: a few steps one by one, then strides.
+// The column where the walk to the left ends: a few steps one by one, then strides; left of column 16 one by one alone.
 fn walk_left(words: &[u64], marks: &mut [u64], shape: Shape, center: PointU, angle: Angle) -> u32
     requires { ⌜ Image shape (now words) (now marks) × Inside shape (center .x) (center .y) × OfDegree angle ⌝ }
     ensures { λ r. ⌜ Ran (walk shape center angle true) (now (words .entry)) (now (marks .entry)) r (now (marks .exit)) ⌝ }
@@ -250,7 +251,7 @@ fn strides(
     first: u32,
 ) -> u32
     requires { ⌜ Image shape (now words) (now marks) × Inside shape (center .x) (center .y) × OfDegree angle × (first ≤ center .x + stepsRight shape angle) ⌝ }
-    ensures { λ r. ⌜ Ran (rightFrom shape center angle (stepsLeft center first) first) (now (words .entry)) (now (marks .entry)) r (now (marks .exit)) ⌝ }
+    ensures { λ r. ⌜ Ran (rightFrom shape center angle (stepsRemaining center first) first) (now (words .entry)) (now (marks .entry)) r (now (marks .exit)) ⌝ }
 {
     let mut x = first;
     loop {

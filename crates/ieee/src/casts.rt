@@ -82,9 +82,10 @@ pub fn abs_below_f32_to_u32(x: f32) -> u32
     (bits / 0x100_0000 % 0x1000_0000) as u32
 }
 
-// Rust's `x.abs() as u32` of an x below 2 ^ 22 in size, by operations of f32 alone, so that several go side by side in vectors. From
-// 2 ^ 23 to 2 ^ 24 every f32 is whole: 2 ^ 23 more than the size is 2 ^ 23 more than its whole part, or one above that, which
-// then exceeds the size.
+// Rust's `x.abs() as u32` of an x below 2 ^ 22 in size, by operations of f32 alone, so that several go side by side
+// in vectors. From 2 ^ 23 to 2 ^ 24 the values of f32 are the whole numbers: the sum of the size and 2 ^ 23 is rounded
+// to 2 ^ 23 more than the whole part, or to one above that. In the second case the sum less 2 ^ 23 exceeds the size,
+// and one is taken off.
 pub fn abs_small_f32_to_u32(x: f32) -> u32
     requires { ⌜ T (Ieee.lt (abs x) (fin false 1 (pos 22))) ⌝ }
     ensures { λ r. ⌜ r ≡ Ieee.toUnsigned 32 (abs x) ⌝ }

@@ -1,8 +1,8 @@
 // What Rust has on floats and Rattle lacks, as functions that ask nothing of their argument: bit
 // patterns, abs, saturating casts, and floor and round to an integer. Two casts more are for small
-// numbers only, and faster. Each contract
-// is one equation with a definition, of the logic's account of IEEE 754 (`lib.Ieee`) or of specs/, for
-// every float, NaNs too.
+// numbers only, and faster. Each contract is one equation with a definition, of the logic's account
+// of IEEE 754 (`lib.Ieee`) or of specs/, for every float, NaNs too; of those two for every float that
+// they ask for.
 mod bits;
 mod casts;
 

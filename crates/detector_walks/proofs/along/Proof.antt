@@ -1,5 +1,5 @@
--- `detector_walks::along` meets its contract: the numbers are listed one after another. The remainder leaves each column as it is; it tells the compiler that
--- none is above 2 ^ 21. The measure is the numbers left. Assumes nothing.
+-- `detector_walks::along` meets its contract: the numbers are listed one after another. The remainder leaves each column as it is. The
+-- measure is the numbers left. Assumes nothing.
 use Prim.Native.Nat.{ℕ, _+_, _-_, _%_, _^_, _≤_, _<_}
 use mathlib.Core.Bool.{false}
 use mathlib.Core.List.{List}
@@ -31,41 +31,41 @@ low n = mod-lt n (lit< tt)
 exact-column : (n : ℕ) → T (inFloat binary32 (pos (n % 2 ^ 21)))
 exact-column n = exact (n % 2 ^ 21) (omega (arith, low n))
 
-small : (factor : Float) (c from n : ℕ) → Between 0 1 (abs factor) → c < 2 ^ 11 → from < 2 ^ 11
-    → T (lt (abs (add binary32 (mul binary32 factor (past c (n % 2 ^ 21))) (real from))) (fin false 1 (pos 22)))
-small factor c from n unit left inside = size-below factor c (n % 2 ^ 21) from unit (omega arith) (omega (arith, low n)) (omega arith) 22 (omega arith)
+small : (factor : Float) (c place n : ℕ) → Between 0 1 (abs factor) → c < 2 ^ 11 → place < 2 ^ 11
+    → T (lt (abs (add binary32 (mul binary32 factor (past c (n % 2 ^ 21))) (real place))) (fin false 1 (pos 22)))
+small factor c place n unit left inside = size-below factor c (n % 2 ^ 21) place unit (omega arith) (omega (arith, low n)) (omega arith) 22 (omega arith)
 
-begins : (factor : Float) (c from x : ℕ) → Along factor c from x 0 (replicate 32 0)
-begins factor c from x = record { all = refl; at = λ i h. absurd (omega (arith, h)) }
+begins : (factor : Float) (c place x : ℕ) → Along factor c place x 0 (replicate 32 0)
+begins factor c place x = record { all = refl; at = λ i h. absurd (omega (arith, h)) }
 
-module _ {factor : Float} {c from x i : ℕ} {cells : List ℕ} (along : Along factor c from x i cells) where
-  onward : {v : ℕ} → i < 32 → x < 2 ^ 20 + 2 ^ 12 → v ≡ cellAt factor c from ((x + i) % 2 ^ 21) → Along factor c from x (i + 1) (set cells i v)
+module _ {factor : Float} {c place x i : ℕ} {cells : List ℕ} (along : Along factor c place x i cells) where
+  onward : {v : ℕ} → i < 32 → x < 2 ^ 20 + 2 ^ 12 → v ≡ cellAt factor c place ((x + i) % 2 ^ 21) → Along factor c place x (i + 1) (set cells i v)
   onward {v} h few e = record { all = length-set cells i v ∙ along .all; at = at }
     where
-      here : v ≡ cellAt factor c from (x + i)
-      here = e ∙ ap (cellAt factor c from) (mod-eq-of-lt (omega arith))
+      here : v ≡ cellAt factor c place (x + i)
+      here = e ∙ ap (cellAt factor c place) (mod-eq-of-lt (omega arith))
 
-      at : (j : ℕ) → j < i + 1 → getD (set cells i v) j 0 ≡ cellAt factor c from (x + j)
+      at : (j : ℕ) → j < i + 1 → getD (set cells i v) j 0 ≡ cellAt factor c place (x + j)
       at j low = elim (eq-or-lt-of-le {n = j} {m = i} (omega arith)) [
         | inl same ↦ ap (λ (k : ℕ). getD (set cells i v) k 0) same ∙ getD-set-same cells i v 0 (omega (arith, along .all)) ∙ here
-            ∙ ap (λ (k : ℕ). cellAt factor c from (x + k)) (sym same)
-        | inr lower ↦ read-below ℕ cells i j v 0 (cellAt factor c from (x + j)) lower (along .at j lower)
+            ∙ ap (λ (k : ℕ). cellAt factor c place (x + k)) (sym same)
+        | inr lower ↦ read-below ℕ cells i j v 0 (cellAt factor c place (x + j)) lower (along .at j lower)
       ]
 
-  over : 32 ≤ i → Along factor c from x 32 cells
+  over : 32 ≤ i → Along factor c place x 32 cells
   over h = record { all = along .all; at = λ j low. along .at j (omega arith) }
 
 abbrev Inv-loop : tie.InvT-loop
-Inv-loop factor center-x from x cx c cells₀ i₀ cells i = Along factor center-x from x i cells
+Inv-loop factor center-x place x cx p cells₀ i₀ cells i = Along factor center-x place x i cells
 
 abbrev μ-loop : tie.MeasureT-loop
-μ-loop factor center-x from x cx c cells₀ i₀ cells i = 32 - i
+μ-loop factor center-x place x cx p cells₀ i₀ cells i = 32 - i
 
 int-to-float-cx : tie.Need-int-to-float-cx Inv-loop μ-loop
 int-to-float-cx c = search exact-place
 
-int-to-float-c : tie.Need-int-to-float-c Inv-loop μ-loop
-int-to-float-c c = search exact-place
+int-to-float-p : tie.Need-int-to-float-p Inv-loop μ-loop
+int-to-float-p c = search exact-place
 
 loop-holds : tie.Need-loop-holds Inv-loop μ-loop
 loop-holds c = search begins
@@ -107,7 +107,7 @@ along-spec =
     Inv-loop
     μ-loop
     int-to-float-cx
-    int-to-float-c
+    int-to-float-p
     loop-holds
     cast-u
     add-u

@@ -1,5 +1,5 @@
 -- `detector_walks::strides` meets its contract. The invariant is `Walking`: from the present column, what is left of the definition ends as the whole does.
--- The measure is the columns up to the one where the walk has ended at the latest, which no stride goes past. Assumes nothing.
+-- The measure is the columns up to the one where the walk has ended at the latest, past which no stride ends. Assumes nothing.
 use Prim.Native.Nat.{ℕ, _+_, _-_, _^_, _≤_, _<_}
 use mathlib.Core.List.{List}
 use mathlib.Core.Path.{_≡_, _∙_}
@@ -14,7 +14,7 @@ use Rattle.bit_matrix.specs.ShapeClauses.{Limits, Inside}
 use Rattle.sines.specs.declared.Angle.{Angle}
 use Rattle.rxing_result_point.specs.declared.PointU.{PointU}
 use Rattle.detector_walks.specs.Walks.{rightFrom}
-use Rattle.detector_walks.specs.WalksClauses.{OfDegree, stepsLeft}
+use Rattle.detector_walks.specs.WalksClauses.{OfDegree, stepsRemaining}
 use Rattle.detector_walks.specs.StepsLaws.{stepsRight, steps-few}
 use Rattle.detector_walks.proofs.Joins.{kept-near, stopped, resumed}
 use Rattle.detector_walks.proofs.strides.Statement.{statement}
@@ -22,7 +22,7 @@ use Rattle.detector_walks.proofs.strides.Tie as tie
 
 module _ (words : List ℕ) (shape : Shape) (center : PointU) (angle : Angle) where
   abbrev rest : ℕ → Reads ℕ
-  rest x = rightFrom shape center angle (stepsLeft center x) x
+  rest x = rightFrom shape center angle (stepsRemaining center x) x
 
   abbrev limit : ℕ
   limit = center .x + stepsRight shape angle

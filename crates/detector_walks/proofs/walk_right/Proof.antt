@@ -13,7 +13,7 @@ use Rattle.sines.specs.declared.Angle.{Angle}
 use Rattle.sines.specs.Laws.{scaled}
 use Rattle.rxing_result_point.specs.declared.PointU.{PointU}
 use Rattle.detector_walks.specs.Walks.{rightFrom, walk}
-use Rattle.detector_walks.specs.WalksClauses.{OfDegree, stepsLeft}
+use Rattle.detector_walks.specs.WalksClauses.{OfDegree, stepsRemaining}
 use Rattle.detector_walks.specs.StepsLaws.{stepsRight, steps-some}
 use Rattle.detector_walks.proofs.Joins.{kept-near, stopped, resumed}
 use Rattle.detector_walks.proofs.walk_right.Statement.{statement}
@@ -24,10 +24,10 @@ module _ {words : List ℕ} {shape : Shape} {center : PointU} {angle : Angle} (l
   begun : center .x + 1 ≤ center .x + stepsRight shape angle
   begun = omega (arith, steps-some shape (scaled (angle .sin)))
 
-  starts : Resumes words (rightFrom shape center angle (stepsLeft center (center .x + 1)) (center .x + 1)) marks (walk shape center angle false) marks
+  starts : Resumes words (rightFrom shape center angle (stepsRemaining center (center .x + 1)) (center .x + 1)) marks (walk shape center angle false) marks
   unfolding walk
   starts =
-      let all : stepsLeft center (center .x + 1) ≡ 2 ^ 20 = omega arith in
+      let all : stepsRemaining center (center .x + 1) ≡ 2 ^ 20 = omega arith in
       rw all resumes-start
 
   near : y ≤ center .x + stepsRight shape angle
@@ -36,7 +36,7 @@ module _ {words : List ℕ} {shape : Shape} {center : PointU} {angle : Angle} (l
   ends-soon : y < center .x + 1 + 16 → Ran (walk shape center angle false) words marks y after
   ends-soon less = stopped words shape center angle limits inside of 16 (center .x + 1) begun (omega arith) starts ran less
 
-  ends-later : {last : List ℕ} {r : ℕ} → center .x + 1 + 16 ≤ y → Ran (rightFrom shape center angle (stepsLeft center y) y) words after r last
+  ends-later : {last : List ℕ} {r : ℕ} → center .x + 1 + 16 ≤ y → Ran (rightFrom shape center angle (stepsRemaining center y) y) words after r last
       → Ran (walk shape center angle false) words marks r last
   ends-later more strides = resumes-end strides (resumed words shape center angle limits inside of 16 (center .x + 1) begun (omega arith) starts ran more)
 
