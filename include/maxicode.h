@@ -38,7 +38,8 @@
 #define MAXICODE_RECORDS 400          /* records that the program `find` and the command `bullseye` lend */
 #define MAXICODE_REPORT_BYTES 80      /* bytes that hold the line of any report */
 #define MAXICODE_RECORD_BYTES 200     /* bytes that hold the line of any record */
-#define MAXICODE_CLASSES 4            /* handling classes, from 0 on */
+#define MAXICODE_CLASSES 5            /* handling classes, from 0 on */
+#define MAXICODE_CLASS_WITHOUT_TURN 4 /* the class of each outcome but MAXICODE_OUTCOME_TURNED */
 #define MAXICODE_CELL_ROWS 33         /* rows of cells, and words of a cell buffer */
 #define MAXICODE_CELL_COLUMNS 30      /* cells of a row */
 
@@ -55,7 +56,7 @@
 #define MAXICODE_FIELD_LAST_CENTER_X 29 /* pixels: the last centre inside the image */
 #define MAXICODE_FIELD_LAST_CENTER_Y 30 /* pixels */
 #define MAXICODE_FIELD_CORNERS 31       /* f32 bits: left bottom, left top, right bottom, right top, x before y; 0 for an ellipse */
-#define MAXICODE_FIELD_CLASS 39         /* 0 to 3: the handling class */
+#define MAXICODE_FIELD_CLASS 39         /* the handling class, 0 to 3: the turn in quarters; 4 without a turn */
 
 /* Outcomes; an ellipse only where the check is asked for. */
 #define MAXICODE_OUTCOME_NO_TURN 0     /* no turn */

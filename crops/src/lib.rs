@@ -15,7 +15,8 @@ pub use file::{
     unpacked, words_of,
 };
 pub use record::{
-    CLASSES, FIELDS, Field, Outcome, Point, Record, Report, Unit, class_of_word, places,
+    CLASS_WITHOUT_TURN, CLASSES, FIELDS, Field, Outcome, Point, Record, Report, Unit,
+    class_of_word, places,
 };
 pub use sizes::*;
 pub use unknown::{Unknown, known};

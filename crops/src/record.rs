@@ -129,12 +129,18 @@ impl Outcome {
 }
 
 /// Handling classes: 0 up to one below.
-pub const CLASSES: u32 = 4;
+pub const CLASSES: u32 = 5;
 
-/// The class of a record's word.
-pub fn class_of_word(number: u32) -> Result<u32, Unknown> {
-    let what = "class";
-    match number < CLASSES {
+/// The last of them: that of every record without a turn.
+pub const CLASS_WITHOUT_TURN: u32 = CLASSES - 1;
+
+/// The class of a record's word, beside its outcome: that without a turn, or one of the others.
+pub fn class_of_word(outcome: Outcome, number: u32) -> Result<u32, Unknown> {
+    let (what, known) = match outcome {
+        Outcome::Turned => ("class of a turn", number < CLASS_WITHOUT_TURN),
+        _ => ("class without a turn", number == CLASS_WITHOUT_TURN),
+    };
+    match known {
         true => Ok(number),
         false => Err(Unknown { what, number }),
     }
@@ -167,24 +173,25 @@ pub struct Record {
 }
 
 impl Record {
-    /// The record of its words; an outcome or a class that is not known is an error.
+    /// The record of its words; an outcome that is not known, or a class that it cannot have, is an error.
     pub fn of_words(words: &[u32; RECORD_WORDS]) -> Result<Self, Unknown> {
         let float = |at: usize| f32::from_bits(words[at]);
         let corner = |number: usize| Point {
             x: float(CORNERS + 2 * number),
             y: float(CORNERS + 2 * number + 1),
         };
+        let outcome = Outcome::of_word(words[OUTCOME])?;
         Ok(Record {
             x: words[CENTER_X],
             y: words[CENTER_Y],
             radius: words[RADIUS],
             variance: float(VARIANCE),
-            outcome: Outcome::of_word(words[OUTCOME])?,
+            outcome,
             scale: words[SCALE],
             rotation: float(ROTATION),
             centre: (words[LAST_CENTER_X], words[LAST_CENTER_Y]),
             corners: [corner(0), corner(1), corner(2), corner(3)],
-            class: class_of_word(words[CLASS])?,
+            class: class_of_word(outcome, words[CLASS])?,
         })
     }
 }
@@ -205,15 +212,25 @@ mod tests {
 
     #[test]
     fn an_unknown_outcome_or_class_is_named() {
-        let said = |place: usize, word: u32| {
+        let said = |outcome: u32, class: u32| {
             let mut words = [0; RECORD_WORDS];
-            words[place] = word;
-            Record::of_words(&words).map_err(|unknown| unknown.to_string())
+            (words[OUTCOME], words[CLASS]) = (outcome, class);
+            let record = Record::of_words(&words).map_err(|unknown| unknown.to_string())?;
+            Ok((record.outcome, record.class))
         };
-        assert_eq!(said(OUTCOME, 3).unwrap().outcome, Outcome::Ellipse);
-        assert_eq!(said(OUTCOME, 4), Err("unknown outcome: 4".into()));
-        assert_eq!(said(CLASS, 3).unwrap().class, 3);
-        assert_eq!(said(CLASS, 4), Err("unknown class: 4".into()));
+        for class in 0..4 {
+            assert_eq!(said(1, class), Ok((Outcome::Turned, class)));
+        }
+        let without = [Outcome::NoTurn, Outcome::LostCentre, Outcome::Ellipse];
+        for (number, outcome) in [0, 2, 3].into_iter().zip(without) {
+            assert_eq!(said(number, 4), Ok((outcome, 4)));
+            for class in [0, 1, 3, 5] {
+                let unknown = format!("unknown class without a turn: {class}");
+                assert_eq!(said(number, class), Err(unknown));
+            }
+        }
+        assert_eq!(said(1, 4), Err("unknown class of a turn: 4".into()));
+        assert_eq!(said(4, 4), Err("unknown outcome: 4".into()));
     }
 
     #[test]

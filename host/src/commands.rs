@@ -40,7 +40,7 @@ use files_help;
 macro_rules! ellipse_help {
     () => {
         "\
---ellipse  checks each kept record for an ellipse first: one has outcome 3, class 0, no turn, and zeros for a box. The check reads more
+--ellipse  checks each kept record for an ellipse first: one has outcome 3, class 4, no turn, and zeros for a box. The check reads more
            pixels: a search of a label mostly takes up to half as long again, of some crops far longer
 "
     };

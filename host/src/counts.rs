@@ -6,19 +6,20 @@ use crate::{
 };
 use crops::{ANSWERS, Answer, CLASSES, Outcome, Record};
 
+/// The outcomes of a box without a turn. An ellipse has none either, and is counted apart.
+const WITHOUT_TURN: [Outcome; 2] = [Outcome::NoTurn, Outcome::LostCentre];
+
 /// By class and outcome, the outcomes in the order of `Outcome::ALL`.
 #[derive(Default)]
 struct Grid([[usize; Outcome::ALL.len()]; CLASSES as usize]);
 
 impl Grid {
     fn add(&mut self, record: &Record) {
-        let shown = Outcome::ALL.iter().position(|&o| o == record.outcome);
-        let outcome = shown.expect("every outcome is shown");
-        self.0[record.class as usize][outcome] += 1;
+        self.0[record.class as usize][place(record.outcome)] += 1;
     }
 
-    fn outcome(&self, at: usize) -> usize {
-        self.0.iter().map(|row| row[at]).sum()
+    fn outcome(&self, outcome: Outcome) -> usize {
+        self.0.iter().map(|row| row[place(outcome)]).sum()
     }
 
     fn all(&self) -> usize {
@@ -26,11 +27,14 @@ impl Grid {
     }
 
     fn without_turn(&self) -> usize {
-        (0..)
-            .zip(Outcome::ALL)
-            .filter(|&(_, outcome)| outcome != Outcome::Turned)
-            .map(|(at, _)| self.outcome(at))
+        WITHOUT_TURN
+            .map(|outcome| self.outcome(outcome))
+            .iter()
             .sum()
+    }
+
+    fn ellipses(&self) -> usize {
+        self.outcome(Outcome::Ellipse)
     }
 
     fn table(&self, title: &str, all: &str) -> String {
@@ -45,6 +49,12 @@ impl Grid {
         let columns: Vec<&str> = outcomes.into_iter().chain([all]).collect();
         table(title, &columns, &rows)
     }
+}
+
+/// The column of an outcome.
+fn place(outcome: Outcome) -> usize {
+    let shown = Outcome::ALL.iter().position(|&o| o == outcome);
+    shown.expect("every outcome is shown")
 }
 
 /// Files by answer; crops without a box by their reason; crops, by their first records, and boxes by class and outcome.
@@ -105,23 +115,25 @@ impl Counts {
         table("Files", &["files"], &rows)
     }
 
-    /// Both missed figures, the first by its reasons and in all, the second by crops and by boxes.
+    /// The missed figures: without a box by its reasons and in all, without a turn and as ellipses by crops and by boxes.
     fn missed(&self) -> String {
         let (searched, crops, boxes) = (self.searched(), self.crops.all(), self.boxes.all());
         let without_a_box = self.missed.lines().map(|(label, n)| (label, n, searched));
         let without_a_turn = [
-            (
-                "crops whose first box has no turn",
-                self.crops.without_turn(),
-                crops,
-            ),
-            ("boxes without a turn", self.boxes.without_turn(), boxes),
-        ];
+            ("crops whose first box has no turn", &self.crops, crops),
+            ("boxes without a turn", &self.boxes, boxes),
+        ]
+        .map(|(label, grid, all)| (label, grid.without_turn(), all));
+        let ellipses = [
+            ("crops whose first record is an ellipse", &self.crops, crops),
+            ("ellipses", &self.boxes, boxes),
+        ]
+        .map(|(label, grid, all)| (label, grid.ellipses(), all));
         let line = |&(label, missed, all): &(&str, usize, usize)| {
             let cells = [missed.to_string(), all.to_string(), share(missed, all)];
             row(label, cells)
         };
-        let figures = without_a_box.iter().chain(&without_a_turn);
+        let figures = without_a_box.iter().chain(&without_a_turn).chain(&ellipses);
         let rows: Vec<Row> = figures.map(line).collect();
         table("Missed", &["missed", "of", "share"], &rows)
     }
@@ -136,13 +148,10 @@ impl Counts {
 
     fn outcomes(&self) -> String {
         let label = |outcome: Outcome| format!("{} {}", outcome.number(), outcome.words());
-        let rows: Vec<Row> = (0..)
-            .zip(Outcome::ALL)
-            .map(|(at, outcome)| {
-                let counts = [self.crops.outcome(at), self.boxes.outcome(at)];
-                row(label(outcome), counts)
-            })
-            .collect();
+        let rows = Outcome::ALL.map(|outcome| {
+            let counts = [self.crops.outcome(outcome), self.boxes.outcome(outcome)];
+            row(label(outcome), counts)
+        });
         table("Outcome", &["crops", "boxes"], &rows)
     }
 }

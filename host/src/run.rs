@@ -93,9 +93,10 @@ mod tests {
     use super::*;
     use crops::places::{CLASS, OUTCOME};
 
-    /// What is said of this answer and two records, with this word in the second.
+    /// What is said of this answer and two records without a turn, with this word in the second.
     fn said(answer: u32, kept: u32, (place, word): (usize, u32)) -> Result<usize, String> {
         let mut buffer = [0; 2 * RECORD_WORDS];
+        (buffer[CLASS], buffer[RECORD_WORDS + CLASS]) = (4, 4);
         buffer[RECORD_WORDS + place] = word;
         let report = Report {
             answer,
@@ -111,12 +112,13 @@ mod tests {
     #[test]
     fn nothing_unknown_passes_and_nothing_kept_is_dropped() {
         assert_eq!(said(0, 2, (OUTCOME, 3)), Ok(2));
-        assert_eq!(said(0, 2, (CLASS, 3)), Ok(2));
-        assert_eq!(said(0, 1, (CLASS, 4)), Ok(1));
+        assert_eq!(said(0, 2, (CLASS, 4)), Ok(2));
+        assert_eq!(said(0, 1, (CLASS, 0)), Ok(1));
         for (answer, kept, word, error) in [
             (0, 2, (OUTCOME, 4), "unknown outcome: 4"),
-            (0, 2, (CLASS, 4), "unknown class: 4"),
-            (0, 3, (CLASS, 0), "unknown number of kept records: 3"),
+            (0, 2, (CLASS, 0), "unknown class without a turn: 0"),
+            (0, 2, (OUTCOME, 1), "unknown class of a turn: 4"),
+            (0, 3, (CLASS, 4), "unknown number of kept records: 3"),
             (10, 0, (CLASS, 0), "unknown answer: 10"),
             (14, 0, (CLASS, 0), "unknown answer: 14"),
         ] {

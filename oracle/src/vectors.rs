@@ -6,7 +6,7 @@
 //! the kept records as u32 words and the marks as u64 words.
 
 use crate::second::{EllipseWidths, ellipse_widths};
-use crops::places::{CENTER_X, CENTER_Y};
+use crops::places::{CENTER_X, CENTER_Y, OUTCOME};
 use crops::{MOST_CANDIDATES, RECORD_WORDS, Report, answer, dimensions, known, unpacked};
 
 const NAME_BYTES: usize = 28;
@@ -137,7 +137,7 @@ impl Vector {
         records.map(about).collect()
     }
 
-    /// In words what another run on the same crop and lengths has otherwise.
+    /// In words what another run on the same crop and lengths has otherwise; of as many records each word.
     pub fn changes(&self, new: &Vector) -> Vec<String> {
         let (old, now) = (self.report, new.report);
         let number = |what: &str, a: u32, b: u32| (a != b).then(|| format!("{what} {a} -> {b}"));
@@ -147,10 +147,11 @@ impl Vector {
             number("found", old.found, now.found),
             number("kept", old.kept, now.kept),
             number("marked", old.marked, now.marked),
-            buffer("records", self.records != new.records),
+            buffer("records", self.records.len() != new.records.len()),
             buffer("marks", self.marks != new.marks),
         ];
-        changes.into_iter().flatten().collect()
+        let records = record_changes(&self.records, &new.records);
+        changes.into_iter().flatten().chain(records).collect()
     }
 
     fn write(&self, out: &mut Vec<u8>) {
@@ -177,6 +178,21 @@ impl Vector {
         out.extend(self.records.iter().flat_map(|n| n.to_le_bytes()));
         out.extend(self.marks.iter().flat_map(|n| n.to_le_bytes()));
     }
+}
+
+/// Each word in which one of the records differs from the other list's, with the outcome there.
+fn record_changes(old: &[u32], new: &[u32]) -> Vec<String> {
+    let records = old.chunks_exact(RECORD_WORDS);
+    let mut changes = Vec::new();
+    for (old, new) in records.zip(new.chunks_exact(RECORD_WORDS)) {
+        for place in (0..RECORD_WORDS).filter(|&place| old[place] != new[place]) {
+            let (was, is, outcome) = (old[place], new[place], new[OUTCOME]);
+            changes.push(format!(
+                "record word {place} {was} -> {is}, outcome {outcome}"
+            ));
+        }
+    }
+    changes
 }
 
 fn first_difference<T: PartialEq>(a: &[T], b: &[T]) -> Option<usize> {

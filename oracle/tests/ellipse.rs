@@ -1,7 +1,7 @@
 //! The ellipse check on the source's functions: its lengths, its end points, its reads, and what it changes of a search.
 #![cfg(source)]
 
-use crops::places::{CENTER_X, CLASS, LAST_CENTER_X, OUTCOME, SCALE};
+use crops::places::{CENTER_X, CLASS, CORNERS, LAST_CENTER_X, OUTCOME, SCALE};
 use oracle::generate::{self, Crop};
 use oracle::harness::{self, steps};
 use oracle::second::{EllipseVerdict, ellipse_widths};
@@ -130,7 +130,7 @@ fn verdicts_and_reads_are_those_of_the_walks() {
     assert!(said.iter().all(|count| *count > 30), "{said:?}");
 }
 
-/// With the check, answer and counts are as without it. A record is an ellipse's, with zeros and its centre as found, or it is the
+/// With the check, answer and counts are as without it. A record is an ellipse's, with zeros, its centre as found and class 4, or it is the
 /// very record without the check, also after an ellipse.
 #[test]
 fn an_ellipse_changes_its_record_alone() {
@@ -152,7 +152,8 @@ fn an_ellipse_changes_its_record_alone() {
                     checked[LAST_CENTER_X..LAST_CENTER_X + 2],
                     checked[CENTER_X..CENTER_X + 2]
                 );
-                assert_eq!(checked[LAST_CENTER_X + 2..=CLASS], [0; 9]);
+                assert_eq!(checked[CORNERS..CLASS], [0; 8]);
+                assert_eq!(checked[CLASS], 4);
                 seen[0] += 1;
             } else {
                 assert_eq!(checked, plain);

@@ -238,8 +238,10 @@ fn pair_point_and_the_cap() {
 
 #[test]
 fn pair_class() {
-    let classes = [44.0, 46.0, 348.0].map(harness::class);
-    assert_eq!(classes, [0, 1, 0]);
+    let turned = [0.0, 44.0, 46.0, 348.0].map(|rotation| harness::class(1, rotation));
+    assert_eq!(turned, [0, 0, 1, 0]);
+    let without = [0, 2, 3].map(|outcome| harness::class(outcome, 0.0));
+    assert_eq!(without, [4; 3]);
 }
 
 /// All thirty cells of a row.

@@ -337,7 +337,7 @@ mod tests {
         (
             |words, width, height, records, marks, ellipse| {
                 let report = right(words, width, height, records, marks, ellipse);
-                records[crops::places::CLASS] = 4;
+                records[crops::places::CLASS] ^= 4;
                 report
             },
             "record word 39",

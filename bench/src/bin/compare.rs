@@ -330,7 +330,7 @@ impl Round<'_> {
         for (word, value) in expected[CORNERS..CLASS].iter_mut().zip(words) {
             *word = value;
         }
-        expected[CLASS] = class(rotation);
+        expected[CLASS] = class(outcome, rotation);
         let ours = |marks: &mut [u64]| {
             bench::box_symbol(image(crop), marks, &mut fields, centre, radius).map(|_| fields)
         };
@@ -339,7 +339,7 @@ impl Round<'_> {
             step,
             match outcome {
                 0 => "no turn".to_string(),
-                1 => format!("turned at scale {scale}, class {}", class(rotation)),
+                1 => format!("turned at scale {scale}, class {}", expected[CLASS]),
                 _ => format!("lost at scale {scale}"),
             },
         );

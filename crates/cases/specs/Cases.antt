@@ -44,7 +44,7 @@ use Rattle.detector_boundary.specs.declared.Boundary.{Boundary}
 use Rattle.detector_points.specs.Orientation.{point, adjustedPoint}
 use Rattle.detector_walks.specs.declared.Width.{Width}
 use Rattle.detector_ellipse.specs.Ellipse.{longest, shortest, linearEccentricity, checkEllipsePoint, inEllipse, fourFifths}
-use Rattle.detector_outcome.specs.Outcomes.{quarterOf, classOf, turnedBy}
+use Rattle.detector_outcome.specs.Outcomes.{quarterOf, classOf, turnedBy, notTurned, lostAt, ellipseAt}
 use Rattle.rxing_result_point.specs.declared.PointU.{PointU}
 use Rattle.crop_padding.specs.Below.{anyBelow, firsts, number}
 use Rattle.bit_matrix_rectangle.specs.Rectangle.{leastBelow, greatestBelow, enclosingRectangle}
@@ -146,7 +146,9 @@ pub record Cases : Type 0 where
   -- with the bottom at 50 the row is past the cap
   pub bottom-0 : adjustedPoint (raised 0) (point 10 9) ≡ point 22 19
   pub bottom-50 : adjustedPoint (raised 50) (point 10 9) ≡ point 22 65
-  -- classes of turns: the one line there without a P
+  -- classes of turns, and of what has none about the same centre
+  pub turn-0 : (scale : ℕ) (center : PointU) → classOf (turnedBy 0 scale center) ≡ 0
+  pub without-turn : (scale : ℕ) (center : PointU) → map classOf (notTurned center ∷ lostAt scale center ∷ ellipseAt center ∷ []) ≡ replicate 3 4
   pub turn-44 : (scale : ℕ) (center : PointU) → classOf (turnedBy 44 scale center) ≡ 0
   pub turn-46 : (scale : ℕ) (center : PointU) → classOf (turnedBy 46 scale center) ≡ 1
   pub turn-348 : (scale : ℕ) (center : PointU) → classOf (turnedBy 348 scale center) ≡ 0
@@ -206,6 +208,8 @@ cases = record {
   radius-6-boundary = refl;
   bottom-0 = refl;
   bottom-50 = refl;
+  turn-0 = λ scale center. refl;
+  without-turn = λ scale center. refl;
   turn-44 = λ scale center. refl;
   turn-46 = λ scale center. refl;
   turn-348 = λ scale center. refl;

@@ -26,19 +26,19 @@ module _ (b : Boundary) (center : PointU) where
   unfolding symbolWords cornersOf
   turned-words degree scale = refl
 
-  -- without: 0, no scale, rotation 0, the last corrected centre, the plain box, class 0
-  pub no-turn-words : symbolWords (symbolOf b (notTurned center)) ≡ 0 ∷ 0 ∷ 0 ∷ center .x ∷ center .y ∷ fourCorners (plainCorners b) ++ (0 ∷ [])
+  -- without: 0, no scale, rotation 0, the last corrected centre, the plain box, class 4
+  pub no-turn-words : symbolWords (symbolOf b (notTurned center)) ≡ 0 ∷ 0 ∷ 0 ∷ center .x ∷ center .y ∷ fourCorners (plainCorners b) ++ (4 ∷ [])
   unfolding symbolWords cornersOf
   no-turn-words = refl
 
-  -- with a lost centre: 2, the scale that lost it, rotation 0, the last centre inside, the plain box, class 0
+  -- with a lost centre: 2, the scale that lost it, rotation 0, the last centre inside, the plain box, class 4
   pub lost-words : (scale : ℕ) → symbolWords (symbolOf b (lostAt scale center))
-      ≡ 2 ∷ scale ∷ 0 ∷ center .x ∷ center .y ∷ fourCorners (plainCorners b) ++ (0 ∷ [])
+      ≡ 2 ∷ scale ∷ 0 ∷ center .x ∷ center .y ∷ fourCorners (plainCorners b) ++ (4 ∷ [])
   unfolding symbolWords cornersOf
   lost-words scale = refl
 
-  -- an ellipse: 3, no scale, rotation 0, the centre as found, eight zeros for the corners, class 0
-  pub ellipse-words : symbolWords (symbolOf b (ellipseAt center)) ≡ 3 ∷ 0 ∷ 0 ∷ center .x ∷ center .y ∷ replicate 8 0 ++ (0 ∷ [])
+  -- an ellipse: 3, no scale, rotation 0, the centre as found, eight zeros for the corners, class 4
+  pub ellipse-words : symbolWords (symbolOf b (ellipseAt center)) ≡ 3 ∷ 0 ∷ 0 ∷ center .x ∷ center .y ∷ replicate 8 0 ++ (4 ∷ [])
   unfolding symbolWords cornersOf flatMap ofInt toBits
   ellipse-words = refl
 

@@ -1,2 +1,3 @@
--- `Outcomes` has the definitions.
+-- `Outcomes` has the definitions, `OutcomesLaws` what a bill goes by: the class beside its outcome.
 pub mod Outcomes
+pub mod OutcomesLaws

@@ -40,6 +40,6 @@ rotationBits outcome = ifOutcome (toBits binary32) 0 0 0 outcome
 unfoldable pub quarterOf : ℕ → ℕ
 quarterOf degree = (degree + 45) / 90 % 4
 
--- the class of a symbol: with a turn its quarter, without one 0
+-- the class of a symbol: with a turn its quarter, without one 4
 abbrev pub classOf : Turn → ℕ
-classOf turn = ifOutcome (λ rotation. quarterOf (turn .degree)) 0 0 0 (turn .outcome)
+classOf turn = ifOutcome (λ rotation. quarterOf (turn .degree)) 4 4 4 (turn .outcome)

@@ -102,7 +102,7 @@ pub fn quarter_of(degree: u32) -> u32
     (degree + 45) / 90 % 4
 }
 
-// The class of a symbol: the quarter of its turn, and 0 without one.
+// The class of a symbol: the quarter of its turn, and 4 without one.
 pub fn class_of(turn: Turn) -> u32
     requires { ⌜ turn .degree < 360 ⌝ }
     ensures { λ r. ⌜ r ≡ classOf turn ⌝ }
@@ -110,8 +110,8 @@ pub fn class_of(turn: Turn) -> u32
     let outcome = turn.outcome;
     match outcome {
         Outcome::Turned(_) => quarter_of(turn.degree),
-        Outcome::NoTurn => 0u32,
-        Outcome::LostCentre => 0u32,
-        Outcome::Ellipse => 0u32,
+        Outcome::NoTurn => 4,
+        Outcome::LostCentre => 4,
+        Outcome::Ellipse => 4,
     }
 }

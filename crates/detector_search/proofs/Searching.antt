@@ -4,8 +4,8 @@ use native.Mathlib.Nat.{min-eq-left}
 use native.Mathlib.Omega.{arith}
 use mathlib.Core.Path.{_≡_, refl, sym, ap, ap₂, _∙_}
 use mathlib.Core.List.{List, [], _++_, append-assoc}
-use lib.ListN.{length, getD, drop, set, take-append-drop}
-use lib.Seq.{take-all, drop-at, length-take-le, getD-set-other}
+use lib.ListN.{length, drop, take-append-drop}
+use lib.Seq.{take-all, drop-at, length-take-le}
 use Rattle.reads.specs.Reads.{Reads}
 use Rattle.reads.specs.Bits.{bitAt, zeros}
 use Rattle.reads.specs.Runs.{valueOf}
@@ -13,7 +13,6 @@ use Rattle.reads.specs.RunsClauses.{Ran}
 use Rattle.reads.specs.RunsLaws.{ran-done, ran-bind, on-ran}
 use Rattle.bit_matrix.specs.declared.Shape.{Shape}
 use Rattle.bit_matrix.specs.ShapeClauses.{Image}
-use Rattle.records.specs.Fields as field
 use Rattle.records.specs.Records.{Record, rows, flat, laidOut}
 use Rattle.records.specs.RecordsClauses.{Each}
 use Rattle.records.specs.RecordsLaws.{length-rows, drop-later, take-flat, each-weaker}
@@ -21,8 +20,9 @@ use Rattle.detector_candidates.specs.Candidates.{concentricCircles}
 use Rattle.detector_candidates.specs.CandidatesClauses.{Room, Listed}
 use Rattle.detector_candidate.specs.CandidateLaws.{Candidate}
 use Rattle.detector_candidates.specs.CandidatesLaws.{all-candidates}
-use Rattle.detector_variances.specs.Variances.{varianceBits, withVariance}
+use Rattle.detector_variances.specs.Variances.{withVariance}
 use Rattle.detector_variances.specs.VariancesClauses.{Small}
+use Rattle.detector_variances.specs.VariancesLaws.{varied-word}
 use Rattle.detector_kept.specs.KeptLaws.{each-ranked}
 use Rattle.detector_verdict.specs.Verdict.{verdict}
 use Rattle.detector_verdict.specs.VerdictClauses.{Judgeable, Holds, Judged}
@@ -36,16 +36,12 @@ use Rattle.detector_search.specs.SearchClauses.{Sought}
 
 -- the variance's word is none of those that the box takes
 candidate-boxable : {shape : Shape} {words : List ℕ} (r : Record) → Candidate shape (bitAt words) r → Boxable shape words (withVariance r)
-unfolding withVariance
-candidate-boxable r candidate =
-    let keeps : (k : ℕ) → (k ≡ field.variance → ⊥) → getD (set r field.variance (varianceBits r)) k 0 ≡ getD r k 0 =
-    λ k other. getD-set-other r field.variance k (varianceBits r) 0 other in
-    record {
-      inside = rw (keeps 0 (λ e. omega arith), keeps 1 (λ e. omega arith)) (candidate .inside);
-      flanked = rw (keeps 0 (λ e. omega arith), keeps 1 (λ e. omega arith)) (candidate .flanked);
-      least = rw (keeps 2 (λ e. omega arith)) (candidate .least);
-      most = rw (keeps 2 (λ e. omega arith)) (omega (arith, candidate .most));
-    }
+candidate-boxable r candidate = record {
+  inside = rw (varied-word r 0 (λ e. omega arith), varied-word r 1 (λ e. omega arith)) (candidate .inside);
+  flanked = rw (varied-word r 0 (λ e. omega arith), varied-word r 1 (λ e. omega arith)) (candidate .flanked);
+  least = rw (varied-word r 2 (λ e. omega arith)) (candidate .least);
+  most = rw (varied-word r 2 (λ e. omega arith)) (omega (arith, candidate .most));
+}
 
 module _ (setting : Setting) {words marks records : List ℕ} (image : Image (setting .shape) words marks) (room : Room (setting .capacity) records 0) where
   abbrev shape : Shape

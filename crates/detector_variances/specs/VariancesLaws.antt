@@ -1,12 +1,13 @@
--- A record's variance is a number that is not negative (`varied-unsigned`). Assumes nothing.
+-- A record's variance is a number that is not negative (`varied-unsigned`), and its other words are as they were (`varied-word`). Assumes nothing.
 use Prim.Native.Nat.{ℕ, zero, suc, _+_, _≤_}
 use native.Mathlib.Omega.{arith}
 use mathlib.Core.Path.{_≡_, ap, _∙_}
 use mathlib.Core.List.{List, [], _∷_}
-use lib.ListN.{length, take, drop, length-drop}
-use lib.Seq.{length-take-le, getD-drop, getD-set-same}
+use lib.ListN.{length, getD, take, drop, length-drop}
+use lib.Seq.{length-take-le, getD-drop, getD-set-same, getD-set-other}
 use lib.Ieee.{binary32, ofBits}
 use lib.Ieee.Bits.{ofBits-toBits}
+use Rattle.records.specs.Fields as field
 use Rattle.records.specs.Records.{Record}
 use Rattle.detector_variance.specs.Variance.{circleVariance}
 use Rattle.detector_variance.specs.VarianceClauses.{Short}
@@ -37,3 +38,7 @@ pub varied-unsigned : (r : Record) → (length r ≡ 40) × Small r → Unsigned
 varied-unsigned r (e, small) =
     ap unsigned (variance-back r e) ∙ variance-unsigned (runsFrom 3 r) (runsFrom 14 r) (short r 3 e (omega arith) small .small)
     (short r 14 e (omega arith) small .small)
+
+pub varied-word : (r : Record) (k : ℕ) → (k ≡ field.variance → ⊥) → getD (withVariance r) k 0 ≡ getD r k 0
+unfolding withVariance
+varied-word r k other = getD-set-other r field.variance k (varianceBits r) 0 other

@@ -1,5 +1,5 @@
 -- `Records` has the definitions, `Fields` the places of a record's words, `RecordsClauses` what the clauses of functions name, `RecordsLaws` how reading,
--- replacing and clearing look on records, `CopiesLaws` the law of a loop that copies.
+-- replacing, clearing and laying out look on records, `CopiesLaws` the law of a loop that copies.
 pub mod Fields
 pub mod Records
 pub mod RecordsClauses

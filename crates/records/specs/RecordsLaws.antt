@@ -1,12 +1,12 @@
--- How reading, replacing and clearing records of a list of words look on its list of records. Assumes nothing.
+-- How reading, replacing, clearing and laying out records of a list of words look on its list of records. Assumes nothing.
 use Prim.Native.Nat.{ℕ, zero, suc, _+_, _-_, _*_, _≤_, _<_}
 use native.Mathlib.Omega.{arith}
 use mathlib.Core.Bool.{Bool, true, false, cond}
 use mathlib.Core.Path.{_≡_, refl, sym, ap, ap₂, _∙_}
 use mathlib.Core.List.{List, [], _∷_, _++_, map, append-assoc}
-use lib.ListN.{length, getD, take, drop, set, length-append, length-drop, take-append-drop}
-use lib.Seq.{take-set-le, take-set-lt, drop-set-lt, drop-set-add, take-add, drop-drop, take-at, drop-at, drop-append-add, length-take-le, getD-take, getD-drop}
-use Rattle.records.specs.Records.{Record, rows, flat, filter}
+use lib.ListN.{length, getD, take, drop, set, replicate, length-append, length-drop, length-replicate, take-append-drop, getD-replicate, List·getD-append}
+use lib.Seq.{take-set-le, take-set-lt, drop-set-lt, drop-set-add, take-add, drop-drop, take-at, drop-at, drop-append-add, length-take-le, getD-take, getD-drop, getD-append-add}
+use Rattle.records.specs.Records.{Record, rows, flat, laidOut, filter}
 use Rattle.records.specs.RecordsClauses.{get, put, Became, Each}
 
 -- None but the first n records of l differ from those of `before`.
@@ -214,3 +214,45 @@ pub each-map : (P Q : Record → Type 0) (f : Record → Record) → ((r : Recor
 unfolding Each
 each-map P Q f gives [] each = each
 each-map P Q f gives (r ∷ rs) each = (gives r (each .0), each-map P Q f gives rs (each .1))
+
+-- ---- a buffer with records laid out
+
+rows-flat : (rs : List Record) (t : List ℕ) → Each (λ (r : Record). length r ≡ 40) rs → rows (length rs) (flat rs ++ t) ≡ rs
+unfolding rows flat Each
+rows-flat [] t whole = refl
+rows-flat (r ∷ rs) t whole =
+    ap (rows (suc (length rs))) (append-assoc r (flat rs) t)
+    ∙ ap₂ (λ (a : Record) (b : List ℕ). a ∷ rows (length rs) b) (take-at r (flat rs ++ t) 40 (whole .0)) (drop-at r (flat rs ++ t) 40 (whole .0))
+    ∙ ap (λ (ss : List Record). r ∷ ss) (rows-flat rs t (whole .1))
+
+length-flat : (rs : List Record) → Each (λ (r : Record). length r ≡ 40) rs → length (flat rs) ≡ 40 * length rs
+unfolding flat Each
+length-flat [] whole = refl
+length-flat (r ∷ rs) whole = simp length-append (omega (arith, whole .0, length-flat rs (whole .1)))
+
+module _ (capacity : ℕ) (rs : List Record) (before : List ℕ) (whole : Each (λ (r : Record). length r ≡ 40) rs) where
+  abbrev spare : List ℕ
+  spare = replicate (40 * (capacity - length rs)) 0 ++ drop (40 * capacity) before
+
+  apart : laidOut capacity rs before ≡ flat rs ++ spare
+  unfolding laidOut
+  apart = append-assoc (flat rs) _ _
+
+  -- its first records
+  pub laid-record : (i : ℕ) → i < length rs → get (laidOut capacity rs before) i ≡ getD rs i []
+  laid-record i h =
+      sym (get-row (length rs) (laidOut capacity rs before) i h)
+      ∙ ap (λ (ss : List Record). getD ss i []) (ap (rows (length rs)) apart ∙ rows-flat rs spare whole)
+
+  zero-at : (n j : ℕ) → n ≡ length (flat rs) + j → j < 40 * (capacity - length rs) → getD (laidOut capacity rs before) n 0 ≡ 0
+  zero-at n j at inside =
+      ap₂ (λ (l : List ℕ) (m : ℕ). getD l m 0) apart at
+      ∙ getD-append-add (flat rs) spare j 0
+      ∙ List·getD-append (replicate (40 * (capacity - length rs)) 0) (drop (40 * capacity) before) 0 j (rw length-replicate inside)
+      ∙ getD-replicate (40 * (capacity - length rs)) j 0 0 inside
+
+  -- a word of a record after them, up to the capacity
+  pub laid-zero : (i k : ℕ) → length rs ≤ i → i < capacity → k < 40 → getD (get (laidOut capacity rs before) i) k 0 ≡ 0
+  laid-zero i k least most low =
+      get-word (laidOut capacity rs before) i k low
+      ∙ zero-at (40 * i + k) (40 * i + k - 40 * length rs) (omega (arith, length-flat rs whole)) (omega arith)

@@ -29,7 +29,7 @@ Crops are the same by their names; a name that stands twice is compared in order
   counts        found, kept or marked
   outcome       how the search for the turn ended, of a record
   turn          a record's degrees
-  class         a record's class
+  class         a record's class; in a table of a version before 0.5 it is 0 without a turn
   other fields  a record's circle, scale, variance, last centre or corners
 Records are compared by their numbers; where fewer are kept, the counts tell.
 

@@ -22,7 +22,8 @@ Searches each crop file, with room for 400 records, and prints
 and a line for each kept record, best first:
   X Y RADIUS OUTCOME SCALE ROTATION CLASS VARIANCE CORNERS
 X, Y and RADIUS are of the circle as found, in pixels. OUTCOME is 1 turned, 0 no turn, 2 lost centre, 3 ellipse. ROTATION is in
-degrees. VARIANCE and the eight CORNERS (left bottom, left top, right bottom, right top, x before y) are the bits of f32 in hex.
+degrees. CLASS is 0 to 3, the turn in quarters, or 4 without a turn. VARIANCE and the eight CORNERS (left bottom, left top, right
+bottom, right top, x before y) are the bits of f32 in hex.
 With more than one file, or a folder or a list, a line `FILE:` comes before the lines of each.
 
 ",

@@ -23,15 +23,15 @@ Usage: bullseye summary [--ellipse] [--list | -0] FILE..
 Searches each crop file, with room for 400 records, and prints tables. Each kept record of a crop is a box, an ellipse too. A crop is
 counted by its first record, the best, which is its label; its other boxes are counted among boxes alone.
   Files           how many were searched, refused, and could not be read
-  Missed          both missed figures: searched crops without a box, by reason and in all; and without a turn (no turn, lost centre,
-                  or ellipse), by crops whose first box has none, and by all boxes. The reasons:
+  Missed          the missed figures: searched crops without a box, by reason and in all; without a turn (no turn or lost centre), by crops
+                  whose first box has none, and by all boxes; and ellipses, by crops whose first record is one, and by all. The reasons:
                   empty (8)      no candidate is found
                   set aside (9)  candidates are found, and none is kept
                   too many (7)   more candidates than 400
   Answer          files by answer
   Outcome         crops by the outcome of their first box, and all boxes by outcome
   Class of crops  crops by class and outcome of their first box
-  Class of boxes  all boxes by class and outcome; without a turn the class is 0
+  Class of boxes  all boxes by class and outcome; class 4 are the boxes without a turn and the ellipses together
 Above them stands a line where the ellipse check was on.
 
 ",
@@ -40,7 +40,8 @@ Above them stands a line where the ellipse check was on.
         "\
 A file that is refused or cannot be read is named on standard error, with the reason, and does not end the run.
 --table  TABLE.. are tables of `bullseye table` (CSV), - for standard input: the summary of the files in them. In a table of version
-         0.1 answer 8 is set aside too: Missed goes by what was found, Answer by the numbers. All tables were made with
+         0.1 answer 8 is set aside too: Missed goes by what was found, Answer by the numbers. In one of a version before 0.5
+         the class is 0 without a turn: Missed goes by the outcome, Class by the numbers. All tables were made with
          --ellipse, or none of them
 
 Exit status: 0 all files were searched; 1 a file is refused or cannot be read; 2 bad usage, or a table that is none.

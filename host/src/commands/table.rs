@@ -24,7 +24,7 @@ file; a file without records has one line, with the record's columns empty.
   record                           the record's number in its file, from 1, the best first
   x y radius                       the circle as found, in pixels
   outcome                          1 turned, 0 no turn, 2 lost centre, 3 ellipse
-  scale rotation class             the scale of the turn, its degrees, the class
+  scale rotation class             the scale of the turn, its degrees, the class: 0 to 3, or 4 without a turn
   variance last_x last_y           the variance; the last centre inside the image, in pixels
   left_bottom_x .. right_top_y     the four corners of the box, in pixels
   problem                          why a file could not be read; its other columns are empty

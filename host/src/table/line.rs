@@ -1,6 +1,6 @@
 //! A line of a table, by its columns.
 use super::{COLUMNS, ELLIPSE, FIELDS, RECORD};
-use crops::{Outcome, Point, Record, Report, class_of_word};
+use crops::{Outcome, Point, Record, Report, Unknown, class_of_word};
 use std::str::FromStr;
 
 /// A record with its number in the file.
@@ -98,16 +98,30 @@ fn record(fields: &[Vec<u8>]) -> Result<Record, String> {
             y: float(place + 1)?,
         })
     };
+    let outcome = known(Outcome::of_word(whole(3)?))?;
     Ok(Record {
         x: whole(0)?,
         y: whole(1)?,
         radius: whole(2)?,
-        outcome: Outcome::of_word(whole(3)?).map_err(|unknown| unknown.to_string())?,
+        outcome,
         scale: whole(4)?,
         rotation: float(5)?,
-        class: class_of_word(whole(6)?).map_err(|unknown| unknown.to_string())?,
+        class: known(class(outcome, whole(6)?))?,
         variance: float(7)?,
         centre: (whole(8)?, whole(9)?),
         corners: [corner(10)?, corner(12)?, corner(14)?, corner(16)?],
     })
+}
+
+/// What is known, or in words what is not.
+fn known<T>(result: Result<T, Unknown>) -> Result<T, String> {
+    result.map_err(|unknown| unknown.to_string())
+}
+
+/// The class beside its outcome; without a turn it can be 0 too, as in a table of a version before 0.5.
+fn class(outcome: Outcome, number: u32) -> Result<u32, Unknown> {
+    match (outcome, number) {
+        (Outcome::NoTurn | Outcome::LostCentre | Outcome::Ellipse, 0) => Ok(0),
+        _ => class_of_word(outcome, number),
+    }
 }

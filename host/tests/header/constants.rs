@@ -85,6 +85,7 @@ fn sizes_are_those_of_the_rust_side() {
         ("REPORT_BYTES", crops::REPORT_BYTES),
         ("RECORD_BYTES", crops::RECORD_BYTES),
         ("CLASSES", crops::CLASSES as usize),
+        ("CLASS_WITHOUT_TURN", crops::CLASS_WITHOUT_TURN as usize),
         ("CELL_ROWS", crops::CELL_ROWS),
         ("CELL_COLUMNS", crops::CELL_COLUMNS),
         ("KIND", usize::from(crops::pack(&[], 33, 33)[0] >> 4)),

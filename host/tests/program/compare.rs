@@ -70,9 +70,15 @@ const CHANGES: [(&str, &str, &str, &str); 9] = [
         "class",
     ),
     (
-        ",23,1,5,",
-        ",23,0,5,",
-        "parcel: record 1: outcome turned -> no turn",
+        ",2,1,0,4,",
+        ",2,1,0,0,",
+        "lost: record 1: class 4 -> 0",
+        "class",
+    ),
+    (
+        ",2,1,0,4,",
+        ",0,1,0,4,",
+        "lost: record 1: outcome lost centre -> no turn",
         "outcome",
     ),
     (

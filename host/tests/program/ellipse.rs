@@ -63,7 +63,7 @@ fn an_ellipse_has_zeros_for_a_box() {
     let text = folder.bullseye(&["find", "--ellipse", "eye"]).text();
     let first = text.lines().nth(1).expect("a record");
     let words: Vec<&str> = first.split(' ').collect();
-    assert_eq!(words[3..7], ["3", "0", "0", "0"]);
+    assert_eq!(words[3..7], ["3", "0", "0", "4"]);
     assert_eq!(words[8..], ["00000000"; 8]);
 }
 

@@ -41,6 +41,9 @@ fn a_few_files() {
     for label in ["crops whose first box has no turn", "boxes without a turn"] {
         assert_eq!(cells(&text, "Missed", label), ["1", "2", "50.0 %"]);
     }
+    for label in ["crops whose first record is an ellipse", "ellipses"] {
+        assert_eq!(cells(&text, "Missed", label), ["0", "2", "0.0 %"]);
+    }
     for label in ["empty (8)", "set aside (9)", "too many (7)"] {
         assert_eq!(cells(&text, "Missed", label), ["1", "5", "20.0 %"]);
     }
@@ -53,8 +56,9 @@ fn a_few_files() {
     assert_eq!(cells(&text, "Outcome", "1 turned"), ["1", "1"]);
     assert_eq!(cells(&text, "Outcome", "2 lost centre"), ["1", "1"]);
     for title in ["Class of crops", "Class of boxes"] {
-        assert_eq!(cells(&text, title, "0"), ["0", "0", "1", "0", "1"]);
+        assert_eq!(cells(&text, title, "0"), ["0", "0", "0", "0", "0"]);
         assert_eq!(cells(&text, title, "2"), ["1", "0", "0", "0", "1"]);
+        assert_eq!(cells(&text, title, "4"), ["0", "0", "1", "0", "1"]);
     }
     let complaints = "\
 bullseye: long: refused: 4 length does not match the dimensions
@@ -79,6 +83,26 @@ fn a_table_with_one_number_for_both() {
     }
 }
 
+/// A table in which the class is 0 without a turn: the missed figures go by the outcome, the classes by the numbers.
+#[test]
+fn a_table_without_class_4() {
+    let folder = Folder::new("summary-class-0");
+    folder.write("parcel", &parcel());
+    folder.write("lost", &generated("lost", 20));
+    let table = folder.bullseye(&["table", "parcel", "lost"]).text();
+    let before = table.replace(",0,4,", ",0,0,");
+    assert_ne!(before, table);
+    folder.write("before.csv", before.as_bytes());
+    let text = folder
+        .bullseye(&["summary", "--table", "before.csv"])
+        .text();
+    let label = "boxes without a turn";
+    assert_eq!(cells(&text, "Missed", label), ["1", "2", "50.0 %"]);
+    let title = "Class of boxes";
+    assert_eq!(cells(&text, title, "0"), ["0", "0", "1", "0", "1"]);
+    assert_eq!(cells(&text, title, "4"), ["0", "0", "0", "0", "0"]);
+}
+
 #[test]
 fn nothing_that_could_be_missed() {
     let folder = Folder::new("summary-none");
@@ -87,10 +111,9 @@ fn nothing_that_could_be_missed() {
     let text = ran.text();
     let label = "searched crops without a box";
     assert_eq!(cells(&text, "Missed", label), ["1", "1", "100.0 %"]);
-    assert_eq!(
-        cells(&text, "Missed", "boxes without a turn"),
-        ["0", "0", "-"]
-    );
+    for label in ["boxes without a turn", "ellipses"] {
+        assert_eq!(cells(&text, "Missed", label), ["0", "0", "-"]);
+    }
     assert_eq!((ran.code, ran.err.as_str()), (Some(0), ""));
 }
 
@@ -107,7 +130,7 @@ fn lines_end_under_their_columns() {
 }
 
 /// Counts by class and outcome's word.
-type Grid = [[usize; 4]; 4];
+type Grid = [[usize; 4]; crops::CLASSES as usize];
 
 fn numbers(cells: Vec<String>) -> Vec<usize> {
     let number = |cell: String| cell.parse().expect("a number");
@@ -124,14 +147,25 @@ fn grid(text: &str, title: &str) -> Grid {
         assert_eq!(turned + no_turn + lost + ellipse, all);
         [no_turn, turned, lost, ellipse]
     };
-    [row(0), row(1), row(2), row(3)]
+    [row(0), row(1), row(2), row(3), row(4)]
 }
 
-/// How many have no turn, of how many.
-fn missed(grid: Grid) -> [usize; 2] {
+/// How many have one of these outcomes, of how many.
+fn with(grid: Grid, outcomes: &[usize]) -> [usize; 2] {
     let all: usize = grid.iter().flatten().sum();
-    let without = |row: &[usize; 4]| row[0] + row[2] + row[3];
-    [grid.iter().map(without).sum(), all]
+    let these = |row: &[usize; 4]| outcomes.iter().map(|&outcome| row[outcome]).sum::<usize>();
+    [grid.iter().map(these).sum(), all]
+}
+
+/// The line of class 4 has every record without a turn and no other: the boxes without a turn and the ellipses.
+fn last_class(text: &str, title: &str, figures: [&str; 2]) {
+    let figure = |label: &str| numbers(cells(text, "Missed", label)[..1].to_vec())[0];
+    let line = numbers(cells(text, title, "4"));
+    let [without, ellipses] = figures.map(figure);
+    assert_eq!(line[4], without + ellipses, "{title}");
+    assert_eq!(line[0], 0, "{title}");
+    assert_eq!(line[1] + line[2], without, "{title}");
+    assert_eq!(line[3], ellipses, "{title}");
 }
 
 #[test]
@@ -183,13 +217,29 @@ fn counted(folder: &Folder, args: &[&str], ellipse: bool) {
     }
     assert_eq!(grid(&text, "Class of crops"), crops);
     assert_eq!(grid(&text, "Class of boxes"), boxes);
-    assert!(crops.iter().all(|row| row[1] > 0), "each class occurs");
+    assert!(crops[..4].iter().all(|row| row[1] > 0), "each turn occurs");
+    assert!(crops[4][0] > 0 && crops[4][2] > 0, "each other occurs");
+    last_class(
+        &text,
+        "Class of crops",
+        [
+            "crops whose first box has no turn",
+            "crops whose first record is an ellipse",
+        ],
+    );
+    last_class(
+        &text,
+        "Class of boxes",
+        ["boxes without a turn", "ellipses"],
+    );
     assert_ne!(crops, boxes);
     assert_eq!(boxes.iter().any(|row| row[3] > 0), ellipse);
     let searched = answers[0] + answers[7] + answers[8] + answers[9];
     for (label, expected) in [
-        ("crops whose first box has no turn", missed(crops)),
-        ("boxes without a turn", missed(boxes)),
+        ("crops whose first box has no turn", with(crops, &[0, 2])),
+        ("crops whose first record is an ellipse", with(crops, &[3])),
+        ("boxes without a turn", with(boxes, &[0, 2])),
+        ("ellipses", with(boxes, &[3])),
         ("empty (8)", [answers[8], searched]),
         ("set aside (9)", [answers[9], searched]),
         ("too many (7)", [answers[7], searched]),

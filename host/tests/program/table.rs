@@ -193,10 +193,17 @@ fn wrong_lines() -> Vec<(String, &'static str)> {
             replaced(",0,1,1,", ",10,1,1,"),
             "line 2: unknown answer: 10",
         ),
-        (replaced(",144,2,", ",144,4,"), "line 2: unknown class: 4"),
+        (
+            replaced(",144,2,", ",144,4,"),
+            "line 2: unknown class of a turn: 4",
+        ),
+        (
+            replaced(",23,1,", ",23,2,"),
+            "line 2: unknown class without a turn: 2",
+        ),
         (replaced(",23,1,", ",23,4,"), "line 2: unknown outcome: 4"),
         (
-            replaced(",23,1,", ",23,3,"),
+            replaced(",23,1,5,144,2,", ",23,3,0,0,4,"),
             "line 2: an ellipse in a table made without --ellipse",
         ),
         (

@@ -91,14 +91,19 @@ mod choose {
             Vector::made(&v.name, &v.file, lengths, v.ellipse, search_file)
         };
         let mut chosen: Vec<Vector> = stored.iter().map(anew).collect();
+        let pairs = || stored.iter().zip(&chosen);
         let mut changes = BTreeMap::new();
-        for change in (stored.iter().zip(&chosen)).flat_map(|(old, new)| old.changes(new)) {
+        for change in pairs().flat_map(|(old, new)| old.changes(new)) {
             *changes.entry(change).or_insert(0) += 1;
         }
-        println!("Change | Vectors\n---|---");
+        println!("Change | Count\n---|---");
         for (change, count) in changes {
             println!("{change} | {count}");
         }
+        println!(
+            "vectors changed | {}",
+            pairs().filter(|(old, new)| old != new).count()
+        );
         let known = |v: &Vector| stored.iter().any(|old| old.name == v.name);
         let added: Vec<Vector> = (smallest(seeds).into_iter().chain(with_check(seeds)))
             .filter(|v| !known(v))

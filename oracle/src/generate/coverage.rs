@@ -16,7 +16,7 @@ pub struct Coverage {
     /// Scales 1 to 5 of records with a turn, and of those with a lost centre.
     pub turned: [u64; 5],
     pub lost: [u64; 5],
-    /// Classes of records with a turn.
+    /// Classes 0 to 3 of records with a turn, 4 of those without.
     pub classes: [u64; CLASSES as usize],
     /// Turns of 0, 2, .. 348 degrees.
     pub degrees: [u64; 175],
@@ -71,6 +71,7 @@ impl Coverage {
 
     fn add_record(&mut self, record: &Record) {
         self.outcomes[record.outcome.number() as usize] += 1;
+        self.classes[record.class as usize] += 1;
         match record.outcome {
             Outcome::Turned => self.add_turn(record),
             Outcome::LostCentre => self.lost[record.scale as usize - 1] += 1,
@@ -91,7 +92,6 @@ impl Coverage {
     fn add_turn(&mut self, record: &Record) {
         let (scale, rotation) = (record.scale as usize, record.rotation);
         self.turned[scale - 1] += 1;
-        self.classes[record.class as usize] += 1;
         let at = (rotation / 2.0) as usize;
         if at < 175 && rotation == 2.0 * at as f32 {
             self.degrees[at] += 1;

@@ -1,6 +1,7 @@
 //! The record buffer: forty words for each kept candidate.
 
 use super::point::Point;
+use super::shims::TURNED;
 use crate::{MOST_CANDIDATES, RECORD_WORDS};
 
 /// What the search knows of one kept candidate.
@@ -33,16 +34,19 @@ impl Record {
             .chain([self.rotation.to_bits()])
             .chain(self.centre)
             .chain(corners.map(f32::to_bits))
-            .chain([class(self.rotation)]);
+            .chain([class(self.outcome, self.rotation)]);
         for (word, value) in words.iter_mut().zip(content) {
             *word = value;
         }
     }
 }
 
-/// The quarter that a rotation lies in.
-pub fn class(rotation: f32) -> u32 {
-    (rotation as u32 + 45) / 90 % 4
+/// With a turn the quarter that its rotation lies in, 4 without one.
+pub fn class(outcome: u32, rotation: f32) -> u32 {
+    match outcome {
+        TURNED => (rotation as u32 + 45) / 90 % 4,
+        _ => 4,
+    }
 }
 
 /// How many candidates a record buffer admits.

@@ -28,9 +28,14 @@ fn rotation_of(outcome: Outcome) -> u32 {
     }
 }
 
-/// The class by quarter turns.
-pub(super) fn class_of(rotation: u32) -> u32 {
-    (rotation + 45) / 90 % 4
+/// The class by quarter turns; without a turn there is one class for all.
+pub(super) fn class_of(outcome: Outcome) -> u32 {
+    match outcome {
+        Outcome::Turned(degree) => (degree + 45) / 90 % 4,
+        Outcome::NoTurn => 4,
+        Outcome::LostCenter => 4,
+        Outcome::Ellipse => 4,
+    }
 }
 
 /// A corner of the plain box, turned if there is a turn; an ellipse has none.
@@ -72,6 +77,6 @@ pub(super) fn record_of(
         record[31 + 2 * index] = point.x.to_bits();
         record[32 + 2 * index] = point.y.to_bits();
     }
-    record[39] = class_of(rotation);
+    record[39] = class_of(orientation.outcome);
     record
 }

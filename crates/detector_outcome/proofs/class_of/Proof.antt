@@ -12,18 +12,18 @@ use Rattle.detector_outcome.proofs.class_of.Tie as tie
 
 module _ (turn : Turn) where
   abbrev classAt : Outcome → ℕ
-  classAt outcome = ifOutcome (λ rotation. quarterOf (turn .degree)) 0 0 0 outcome
+  classAt outcome = ifOutcome (λ rotation. quarterOf (turn .degree)) 4 4 4 outcome
 
   turned : {r : ℕ} {rotation : Float} → turn .outcome ≡ Turned rotation → r ≡ quarterOf (turn .degree) → r ≡ classOf turn
   turned e f = f ∙ sym (ap classAt e)
 
-  plain : turn .outcome ≡ NoTurn → 0 ≡ classOf turn
+  plain : turn .outcome ≡ NoTurn → 4 ≡ classOf turn
   plain e = sym (ap classAt e)
 
-  lost : turn .outcome ≡ LostCentre → 0 ≡ classOf turn
+  lost : turn .outcome ≡ LostCentre → 4 ≡ classOf turn
   lost e = sym (ap classAt e)
 
-  ellipse : turn .outcome ≡ Ellipse → 0 ≡ classOf turn
+  ellipse : turn .outcome ≡ Ellipse → 4 ≡ classOf turn
   ellipse e = sym (ap classAt e)
 
 enum-told : tie.Need-enum-told

@@ -76,5 +76,6 @@ fn an_ellipse_has_no_box_and_its_centre_as_found() {
     assert!(off[26] != 3);
     assert_eq!(on[26], 3);
     assert_eq!(on[27..31], [0, 0, on[0], on[1]]);
-    assert_eq!(on[31..], [0; 9]);
+    assert_eq!(on[31..39], [0; 8]);
+    assert_eq!(on[39], 4);
 }

@@ -9,7 +9,7 @@ use crate::second::record::class_of;
 use crate::second::search::count_marks;
 use crate::second::sines::{Point, cosine, sine};
 use crate::second::sweep::{Window, next_window};
-use crate::second::turn::adjust_point;
+use crate::second::turn::{Outcome, adjust_point};
 use crate::second::widths::{EVEN_RUNS, widths_pass};
 
 #[test]
@@ -181,11 +181,16 @@ fn point_10_9_is_capped_after_adding_bottom() {
 
 #[test]
 fn classes_of_turns() {
-    assert_eq!(class_of(44), 0);
-    assert_eq!(class_of(46), 1);
-    assert_eq!(class_of(348), 0);
-    assert_eq!(class_of(180), 2);
-    assert_eq!(class_of(270), 3);
+    for (degree, class) in [(0, 0), (44, 0), (46, 1), (180, 2), (270, 3), (348, 0)] {
+        assert_eq!(class_of(Outcome::Turned(degree)), class);
+    }
+}
+
+#[test]
+fn class_without_a_turn() {
+    for outcome in [Outcome::NoTurn, Outcome::LostCenter, Outcome::Ellipse] {
+        assert_eq!(class_of(outcome), 4);
+    }
 }
 
 #[test]

@@ -32,7 +32,7 @@ fn painted_turns_are_found() {
             .find(|record| record[26] == 1 && record[28] == (turn as f32).to_bits())
             .expect("a record with the painted turn");
         assert_eq!(turned[27], 1);
-        assert_eq!(turned[39], class_of(turn));
+        assert_eq!(turned[39], class_of(Outcome::Turned(turn)));
     }
 }
 

@@ -1,0 +1,73 @@
+-- Every boxed record has the class of its outcome. Assumes nothing.
+use Prim.Native.Nat.{ℕ, _+_, _%_, _≤_}
+use native.Mathlib.Omega.{arith}
+use mathlib.Core.Bool.{Bool}
+use mathlib.Core.List.{List, [], _∷_, flatMap}
+use mathlib.Core.Path.{_≡_, _∙_}
+use lib.Ieee.{binary32, toBits}
+use lib.ListN.{length, getD, length-append}
+use lib.Seq.{length-take-le}
+use Rattle.reads.specs.ReadsLaws.{Always, always-done, always-bind}
+use Rattle.bit_matrix.specs.declared.Shape.{Shape}
+use Rattle.bit_matrix.specs.ShapeClauses.{Inside}
+use Rattle.records.specs.Fields as field
+use Rattle.records.specs.Records.{Record}
+use Rattle.records.specs.RecordsClauses.{Each}
+use Rattle.rxing_result_point.specs.Points.{real}
+use Rattle.detector_boundary.specs.declared.Boundary.{Boundary}
+use Rattle.detector_outcome.specs.declared.Turn.{Turn}
+use Rattle.detector_outcome.specs.OutcomesLaws.{Classed, class-by-outcome}
+use Rattle.detector_symbol.specs.declared.Symbol.{Symbol}
+use Rattle.detector_symbol.specs.Symbols.{symbolWords, withSymbol}
+use Rattle.detector_symbol.specs.SymbolsLaws.{symbol-fields}
+use Rattle.detector_turn.specs.ScalesLaws.{Ended}
+use Rattle.detector_box.specs.Boxes.{symbolOf, symbolAt}
+use Rattle.detector_box.specs.BoxesLaws.{turn-ended}
+use Rattle.detector_boxes.specs.Boxing.{circleOf, boxed, boxedAll}
+
+-- a whole record with its centre inside the image
+pub record Centred (shape : Shape) (r : Record) : Type 0 where
+  pub whole : length r ≡ 40
+  pub inside : Inside shape (getD r field.centerX 0) (getD r field.centerY 0)
+
+-- a whole record whose rotation is that many degrees, even and at most 348, and whose class is that of its outcome
+pub record ClassedRecord (r : Record) : Type 0 where
+  pub whole : length r ≡ 40
+  pub degree : ℕ
+  pub even : degree % 2 ≡ 0
+  pub low : degree ≤ 348
+  pub rotation : getD r field.rotation 0 ≡ toBits binary32 (real degree)
+  pub classed : Classed (getD r field.outcome 0) degree (getD r field.class 0)
+
+whole-symbol : (r : Record) (s : Symbol) → length r ≡ 40 → length (withSymbol r s) ≡ 40
+unfolding withSymbol symbolWords flatMap
+whole-symbol r s whole = simp length-append (omega (arith, length-take-le 26 r (omega arith)))
+
+module _ (ellipse : Bool) (shape : Shape) where
+  with-turn : (r : Record) (b : Boundary) (turn : Turn) → length r ≡ 40 → Ended shape turn → ClassedRecord (withSymbol r (symbolOf b turn))
+  with-turn r b turn whole ended =
+      let fields = symbol-fields r (symbolOf b turn) whole in
+      record {
+        whole = whole-symbol r (symbolOf b turn) whole;
+        degree = turn .degree;
+        even = ended .even;
+        low = ended .low;
+        rotation = fields .rotation ∙ ended .rotation;
+        classed = rw (fields .outcome, fields .class) (class-by-outcome turn);
+      }
+
+  boxed-classed : (r : Record) → Centred shape r → Always ClassedRecord (boxed ellipse shape r)
+  unfolding boxed symbolAt
+  boxed-classed r centred =
+      always-bind {Q = λ (s : Symbol). ClassedRecord (withSymbol r s)} _
+      (always-bind {Q = Ended shape} _ (turn-ended ellipse shape (circleOf r) (centred .inside))
+      λ turn ended. always-done (with-turn r _ turn (centred .whole) ended))
+      λ s classed. always-done classed
+
+  pub all-classed : (rs : List Record) → Each (Centred shape) rs → Always (Each ClassedRecord) (boxedAll ellipse shape rs)
+  unfolding boxedAll Each
+  all-classed [] each = always-done tt
+  all-classed (r ∷ rs) each =
+      always-bind {Q = ClassedRecord} _ (boxed-classed r (each .0))
+      λ b classed. always-bind {Q = Each ClassedRecord} _ (all-classed rs (each .1))
+      λ bs rest. always-done (classed, rest)
