@@ -91,7 +91,7 @@ fn the_judges_cases() {
 /// The right sides of the example are the second reading's too.
 #[test]
 fn the_example() {
-    assert_eq!(passed("examples"), 37);
+    assert_eq!(passed("examples"), 38);
     let read = |name: &str| {
         let path = Path::new(env!("CARGO_MANIFEST_DIR")).join("../examples");
         fs::read_to_string(path.join(name)).expect("the example is there")

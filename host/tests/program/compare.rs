@@ -49,7 +49,7 @@ fn a_table_and_itself() {
 }
 
 /// A text of the table, what stands there instead, the line that tells it, and what is counted.
-const CHANGES: [(&str, &str, &str, &str); 9] = [
+const CHANGES: [(&str, &str, &str, &str); 10] = [
     (
         ",16538,",
         ",16539,",
@@ -70,14 +70,14 @@ const CHANGES: [(&str, &str, &str, &str); 9] = [
         "class",
     ),
     (
-        ",2,1,0,4,",
-        ",2,1,0,0,",
+        ",10,2,2,0,4,",
+        ",10,2,2,0,0,",
         "lost: record 1: class 4 -> 0",
         "class",
     ),
     (
-        ",2,1,0,4,",
-        ",0,1,0,4,",
+        ",10,2,2,0,4,",
+        ",10,0,2,0,4,",
         "lost: record 1: outcome lost centre -> no turn",
         "outcome",
     ),
