@@ -6,8 +6,8 @@ use crate::{
 };
 use crops::{ANSWERS, Answer, CLASSES, Outcome, Record};
 
-/// The outcomes of a box without a turn. An ellipse has none either, and is counted apart.
-const WITHOUT_TURN: [Outcome; 2] = [Outcome::NoTurn, Outcome::LostCentre];
+/// The outcomes of a box without a turn: it was looked for, and not found. Of an ellipse none is looked for; it is counted apart.
+const NOT_FOUND: [Outcome; 2] = [Outcome::NoTurn, Outcome::LostCentre];
 
 /// By class and outcome, the outcomes in the order of `Outcome::ALL`.
 #[derive(Default)]
@@ -27,10 +27,7 @@ impl Grid {
     }
 
     fn without_turn(&self) -> usize {
-        WITHOUT_TURN
-            .map(|outcome| self.outcome(outcome))
-            .iter()
-            .sum()
+        NOT_FOUND.map(|outcome| self.outcome(outcome)).iter().sum()
     }
 
     fn ellipses(&self) -> usize {
@@ -82,6 +79,12 @@ impl Counts {
         for record in &seen.records {
             self.boxes.add(record);
         }
+    }
+
+    /// Whether a record without a turn has class 0, as in tables of a version before 0.5.
+    pub fn has_earlier(&self) -> bool {
+        let upright = self.boxes.0[0];
+        upright.iter().sum::<usize>() > upright[place(Outcome::Turned)]
     }
 
     pub fn tables(&self) -> String {

@@ -137,7 +137,7 @@ impl Vector {
         records.map(about).collect()
     }
 
-    /// In words what another run on the same crop and lengths has otherwise; of as many records each word.
+    /// In words what another run on the same crop and lengths has otherwise; where both kept as many records, each word of them.
     pub fn changes(&self, new: &Vector) -> Vec<String> {
         let (old, now) = (self.report, new.report);
         let number = |what: &str, a: u32, b: u32| (a != b).then(|| format!("{what} {a} -> {b}"));
@@ -147,10 +147,12 @@ impl Vector {
             number("found", old.found, now.found),
             number("kept", old.kept, now.kept),
             number("marked", old.marked, now.marked),
-            buffer("records", self.records.len() != new.records.len()),
             buffer("marks", self.marks != new.marks),
         ];
-        let records = record_changes(&self.records, &new.records);
+        let records = match old.kept == now.kept {
+            true => record_changes(&self.records, &new.records),
+            false => Vec::new(),
+        };
         changes.into_iter().flatten().chain(records).collect()
     }
 

@@ -19,11 +19,11 @@ pub record Classed (outcome degree class : ℕ) : Type 0 where
   pub quarter : outcome ≡ 1 → class ≡ quarterOf degree
   pub most : class ≤ 4
 
-without-turn : (outcome degree : ℕ) → (outcome ≡ 1 → ⊥) → Classed outcome degree 4
-without-turn outcome degree other = record { four = (λ _. other, λ _. refl); quarter = λ turned. absurd (other turned); most = omega arith }
+classed-without : (outcome degree : ℕ) → (outcome ≡ 1 → ⊥) → Classed outcome degree 4
+classed-without outcome degree other = record { four = (λ _. other, λ _. refl); quarter = λ turned. absurd (other turned); most = omega arith }
 
-with-turn : (degree : ℕ) → Classed 1 degree (quarterOf degree)
-with-turn degree = record {
+classed-with : (degree : ℕ) → Classed 1 degree (quarterOf degree)
+classed-with degree = record {
   four = (λ e. absurd (omega (arith, quarter-low degree)), λ other. absurd (other refl));
   quarter = λ _. refl;
   most = omega (arith, quarter-low degree);
@@ -34,7 +34,7 @@ class-by-outcome turn = by (turn .outcome)
   where
     by : (outcome : Outcome)
         → Classed (outcomeNumber outcome) (turn .degree) (ifOutcome (λ rotation. quarterOf (turn .degree)) 4 4 4 outcome)
-    by (Turned rotation) = with-turn (turn .degree)
-    by NoTurn = without-turn 0 (turn .degree) (λ e. omega arith)
-    by LostCentre = without-turn 2 (turn .degree) (λ e. omega arith)
-    by Ellipse = without-turn 3 (turn .degree) (λ e. omega arith)
+    by (Turned rotation) = classed-with (turn .degree)
+    by NoTurn = classed-without 0 (turn .degree) (λ e. omega arith)
+    by LostCentre = classed-without 2 (turn .degree) (λ e. omega arith)
+    by Ellipse = classed-without 3 (turn .degree) (λ e. omega arith)

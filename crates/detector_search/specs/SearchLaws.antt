@@ -27,7 +27,7 @@ use Rattle.detector_verdict.specs.Verdict.{verdict}
 use Rattle.detector_verdict.specs.VerdictLaws.{Counted, verdict-counted, kept-counted, each-kept}
 use Rattle.detector_boxes.specs.Boxing.{circleOf}
 use Rattle.detector_boxes.specs.BoxingLaws.{boxed-length}
-use Rattle.detector_boxes.specs.ClassesLaws.{Centred, ClassedRecord, all-classed}
+use Rattle.detector_boxes.specs.ClassesLaws.{WholeInside, ClassedRecord, all-classed}
 use Rattle.detector_search.specs.declared.Setting.{Setting}
 use Rattle.detector_search.specs.Search.{Result, searchAt}
 
@@ -48,11 +48,11 @@ search-counted setting limits =
 
 -- ---- classes
 
-varied-centred : {shape : Shape} (r : Record) → Centred shape r → Centred shape (withVariance r)
+varied-inside : {shape : Shape} (r : Record) → WholeInside shape r → WholeInside shape (withVariance r)
 unfolding withVariance
-varied-centred r centred = record {
-  whole = length-set r field.variance (varianceBits r) ∙ centred .whole;
-  inside = rw (varied-word r 0 (λ e. omega arith), varied-word r 1 (λ e. omega arith)) (centred .inside);
+varied-inside r held = record {
+  whole = length-set r field.variance (varianceBits r) ∙ held .whole;
+  inside = rw (varied-word r 0 (λ e. omega arith), varied-word r 1 (λ e. omega arith)) (held .inside);
 }
 
 pub search-classed : (setting : Setting) → Limits (setting .shape) → Always (λ (r : Result). Each ClassedRecord (r .records)) (searchAt setting)
@@ -60,17 +60,17 @@ unfolding searchAt
 search-classed setting limits =
     let shape = setting .shape in
     let capacity = setting .capacity in
-    always-bind {Q = Each (Centred shape)} _
+    always-bind {Q = Each (WholeInside shape)} _
     (record {
       on = λ image.
-          each-weaker (Candidate shape image) (Centred shape) (λ r candidate. record { whole = candidate .whole; inside = candidate .inside })
+          each-weaker (Candidate shape image) (WholeInside shape) (λ r candidate. record { whole = candidate .whole; inside = candidate .inside })
           (value (concentricCircles shape capacity) image)
           (all-candidates shape capacity limits image .holds .0);
     })
     λ candidates each.
     always-bind {Q = Each ClassedRecord} _
     (all-classed (setting .ellipse) shape ((verdict capacity candidates) .kept)
-    (each-kept capacity candidates (Centred shape) (each-ranked (Centred shape) (Centred shape) varied-centred candidates each)))
+    (each-kept capacity candidates (WholeInside shape) (each-ranked (WholeInside shape) (WholeInside shape) varied-inside candidates each)))
     λ records classed. always-done classed
 
 -- ---- walks

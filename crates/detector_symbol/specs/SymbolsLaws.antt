@@ -1,9 +1,9 @@
--- A record with a symbol's words, word by word. Assumes nothing.
+-- A record with a symbol's words is whole, and what they are word by word. Assumes nothing.
 use Prim.Native.Nat.{ℕ, _+_}
 use native.Mathlib.Omega.{arith}
 use mathlib.Core.Path.{_≡_, sym, ap, _∙_}
 use mathlib.Core.List.{List, _++_, flatMap}
-use lib.ListN.{length, getD, take, drop}
+use lib.ListN.{length, getD, take, drop, length-append}
 use lib.Seq.{take-at, drop-at, drop-drop, length-take-le, getD-append-add}
 use Rattle.records.specs.Fields as field
 use Rattle.detector_outcome.specs.Outcomes.{outcomeNumber, rotationBits}
@@ -14,6 +14,10 @@ use Rattle.detector_symbol.specs.Symbols.{fourCorners, symbolWords, with
 pub first-kept : (fields : List ℕ) (s : Symbol) → length fields ≡ 40 → take 26 (withSymbol fields s) ≡ take 26 fields
 unfolding withSymbol
 first-kept fields s e = take-at (take 26 fields) (symbolWords s) 26 (length-take-le 26 fields (omega arith))
+
+pub whole-symbol : (fields : List ℕ) (s : Symbol) → length fields ≡ 40 → length (withSymbol fields s) ≡ 40
+unfolding withSymbol symbolWords flatMap
+whole-symbol fields s e = simp length-append (omega (arith, length-take-le 26 fields (omega arith)))
 
 -- the symbol's words by their names
 pub record SymbolFields (r : List ℕ) (s : Symbol) : Type 0 where

@@ -20,8 +20,8 @@ pub const COMMAND: Command = Command {
 Usage: bullseye summary [--ellipse] [--list | -0] FILE..
        bullseye summary --table TABLE..
 
-Searches each crop file, with room for 400 records, and prints tables. Each kept record of a crop is a box, an ellipse too. A crop is
-counted by its first record, the best, which is its label; its other boxes are counted among boxes alone.
+Searches each crop file, with room for 400 records, and prints tables. Each kept record of a crop counts as a box, an ellipse too. A crop
+is counted by its first record, the best, which is its label; its other boxes are counted among boxes alone.
   Files           how many were searched, refused, and could not be read
   Missed          the missed figures: searched crops without a box, by reason and in all; without a turn (no turn or lost centre), by crops
                   whose first box has none, and by all boxes; and ellipses, by crops whose first record is one, and by all. The reasons:
@@ -32,7 +32,7 @@ counted by its first record, the best, which is its label; its other boxes are c
   Outcome         crops by the outcome of their first box, and all boxes by outcome
   Class of crops  crops by class and outcome of their first box
   Class of boxes  all boxes by class and outcome; class 4 are the boxes without a turn and the ellipses together
-Above them stands a line where the ellipse check was on.
+Above them stands a line where the ellipse check was on, and one where a table has class 0 without a turn.
 
 ",
         ellipse_help!(),
@@ -55,6 +55,9 @@ Example: bullseye summary examples/*.crop
 /// What stands above the tables of a search with the ellipse check.
 const CHECKED: &str = "ellipse check: on\n\n";
 
+/// What stands above those of a table of an earlier version.
+const EARLIER: &str = "class 0 without a turn: a table of a version before 0.5\n\n";
+
 fn run(args: &[OsString]) -> Result<bool, Problem> {
     let arguments = Arguments::of(args, &[&MANY[..], &["--table", "--ellipse"]].concat())?;
     let mut counts = Counts::default();
@@ -67,7 +70,8 @@ fn run(args: &[OsString]) -> Result<bool, Problem> {
         }
     };
     let setting = if ellipse { CHECKED } else { "" };
-    print(format!("{setting}{}", counts.tables()).as_bytes())?;
+    let earlier = if counts.has_earlier() { EARLIER } else { "" };
+    print(format!("{setting}{earlier}{}", counts.tables()).as_bytes())?;
     Ok(good)
 }
 

@@ -27,7 +27,8 @@ Usage: bullseye view [--ellipse] [--redacted [--least]] CROP [-o FILE]
 
 Searches the crop, with room for 400 records, and writes an SVG, which any browser shows: the pixels; in blue, those that the
 search read; for each kept record its circle, its box and its rank, green when turned, orange when there is no turn, red when the
-centre was lost; an arrow from the centre to the symbol's top; and below, a line for each record with outcome, degrees and class (4 without a turn).
+centre was lost; an arrow from the centre to the symbol's top; and below, a line for each record with outcome, degrees and class,
+which is 4 without a turn.
 A box is drawn as its record has it: where a turned corner would lie left of the crop or above it, the box is skewed.
 An ellipse has no box. In purple is drawn what the check saw: the end points of its walks, a dot where one passes and a cross where not,
 and the ellipse of the two halves with its half axes, all cut off where the crop ends.

@@ -233,6 +233,22 @@ fn another_version() {
     assert_eq!((code, text), (Some(1), format!("{said}{versions}")));
 }
 
+/// A certificate of a version before 0.5 has class 0 where there is no turn: both versions are named.
+#[test]
+fn an_earlier_class() {
+    let folder = Folder::new("certify-class");
+    folder.write("lost", &generated("lost", 20));
+    let text = folder.bullseye(&["certify", "lost"]).text();
+    let earlier = text.replacen(env!("CARGO_PKG_VERSION"), "0.4.0", 1);
+    let earlier = earlier.replacen("  CLASS: 4\n", "  CLASS: 0\n", 1);
+    folder.write("c", earlier.as_bytes());
+    let ran = folder.bullseye(&["certify", "--check", "c"]);
+    let said = "it says `  CLASS: 0`, the search gives `  CLASS: 4` (written by bullseye 0.4.0, ";
+    assert!(ran.text().starts_with("c: differs in 1 line, "));
+    assert!(ran.text().contains(said), "{}", ran.text());
+    assert_eq!(ran.code, Some(1));
+}
+
 #[test]
 fn files_that_are_no_certificate() {
     let title = "its first line is not `bullseye certificate 1`";

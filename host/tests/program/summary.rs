@@ -83,24 +83,37 @@ fn a_table_with_one_number_for_both() {
     }
 }
 
-/// A table in which the class is 0 without a turn: the missed figures go by the outcome, the classes by the numbers.
+/// A table in which the class is 0 without a turn, by itself and beside one of this version: the missed figures go by the outcome, the
+/// classes by the numbers, and a line says so.
 #[test]
 fn a_table_without_class_4() {
     let folder = Folder::new("summary-class-0");
-    folder.write("parcel", &parcel());
+    folder.write("eye", &ellipse());
     folder.write("lost", &generated("lost", 20));
-    let table = folder.bullseye(&["table", "parcel", "lost"]).text();
-    let before = table.replace(",0,4,", ",0,0,");
-    assert_ne!(before, table);
+    let table = folder.bullseye(&["table", "--ellipse", "eye", "lost"]);
+    let before = table.text().replace(",0,4,", ",0,0,");
+    assert_eq!(table.text().matches(",0,4,").count(), 2);
     folder.write("before.csv", before.as_bytes());
-    let text = folder
-        .bullseye(&["summary", "--table", "before.csv"])
-        .text();
-    let label = "boxes without a turn";
-    assert_eq!(cells(&text, "Missed", label), ["1", "2", "50.0 %"]);
+    folder.write("now.csv", &table.out);
+    let summary = |tables: &[&str]| {
+        let args = [&["summary", "--table"], tables].concat();
+        folder.bullseye(&args).text()
+    };
+    let line = "class 0 without a turn: a table of a version before 0.5\n";
     let title = "Class of boxes";
-    assert_eq!(cells(&text, title, "0"), ["0", "0", "1", "0", "1"]);
+    let text = summary(&["before.csv"]);
+    assert_eq!(text.matches(line).count(), 1, "{text}");
+    for label in ["boxes without a turn", "ellipses"] {
+        assert_eq!(cells(&text, "Missed", label), ["1", "2", "50.0 %"]);
+    }
+    assert_eq!(cells(&text, title, "0"), ["0", "0", "1", "1", "2"]);
     assert_eq!(cells(&text, title, "4"), ["0", "0", "0", "0", "0"]);
+    let text = summary(&["before.csv", "now.csv"]);
+    assert_eq!(text.matches(line).count(), 1, "{text}");
+    for class in ["0", "4"] {
+        assert_eq!(cells(&text, title, class), ["0", "0", "1", "1", "2"]);
+    }
+    assert!(!summary(&["now.csv"]).contains(line));
 }
 
 #[test]

@@ -96,7 +96,7 @@ mod choose {
         for change in pairs().flat_map(|(old, new)| old.changes(new)) {
             *changes.entry(change).or_insert(0) += 1;
         }
-        println!("Change | Count\n---|---");
+        println!("Change, of a vector or of one of its records | Count\n---|---");
         for (change, count) in changes {
             println!("{change} | {count}");
         }
