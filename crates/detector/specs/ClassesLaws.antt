@@ -1,5 +1,5 @@
--- What a bill takes from the record buffer of a run: each kept record has the class of its outcome, and after them the words are 0 up to the capacity, the
--- class too. Assumes nothing.
+-- What a bill takes from the record buffer of a run of an accepted image, which `words-run` and `file-run` of Demand3.antt give for the entries: each kept
+-- record has the class of its outcome, and after them the words are 0 up to the capacity, the class too. Assumes nothing.
 use Prim.Native.Nat.{ℕ, _≤_, _<_}
 use native.Mathlib.Omega.{arith}
 use mathlib.Core.Bool.{Bool}
@@ -13,7 +13,6 @@ use Rattle.records.specs.Records.{Record, capacityOf, laidOut}
 use Rattle.records.specs.RecordsClauses.{get, Each}
 use Rattle.records.specs.RecordsLaws.{each-at, each-weaker, laid-record, laid-zero}
 use Rattle.detector_boxes.specs.ClassesLaws.{ClassedRecord}
-use Rattle.detector_search.specs.Search.{Result}
 use Rattle.detector_search.specs.declared.Setting.{Setting}
 use Rattle.detector_search.specs.SearchLaws.{search-counted, search-classed}
 use Rattle.detector.specs.Detector.{Run, steps, acceptedRun}
