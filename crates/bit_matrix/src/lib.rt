@@ -1,5 +1,7 @@
 // bit_matrix.rs: the pixels of an image of 64-bit words, true for black, with a mark set for each stored bit that is read.
 // What is read is the definition `pixel`. Bit c % 64 of word c / 64 of a row is its column c.
+#![tactic(auto)]
+
 ghost use Rattle.std.specs.Prelude.{◌≡◌, length};
 ghost use Rattle.reads.specs.RunsClauses.{Ran};
 ghost use Rattle.bit_matrix.specs.Shape.{size};
@@ -7,7 +9,7 @@ ghost use Rattle.bit_matrix.specs.ShapeClauses.{Limits, Image};
 ghost use Rattle.bit_matrix.specs.Pixels.{offset, pixel, out_of_range, try_get};
 
 // An image's rows, of `row_words` words each, and how many columns and rows it has.
-#[derive(Drop)]
+#[derive(Clone, Copy)]
 pub struct Shape {
     pub row_words: usize,
     pub width: u32,
@@ -15,7 +17,7 @@ pub struct Shape {
 }
 
 // What `try_get` and `try_get_area` answer: outside the image, or inside, true for black.
-#[derive(Drop)]
+#[derive(Clone, Copy)]
 pub enum Sample {
     Outside,
     Inside(bool),

@@ -1,4 +1,6 @@
 // try_get_area of bit_matrix.rs: the pixels about a pixel, one by one, or by the words that hold them.
+#![tactic(auto)]
+
 ghost use Rattle.std.specs.Prelude.{◌≡◌, ◌+◌, ◌-◌, ◌^◌, ◌≤◌, ◌<◌};
 ghost use Rattle.reads.specs.RunsClauses.{Ran};
 ghost use Rattle.bit_matrix.specs.ShapeClauses.{Image};
@@ -7,7 +9,7 @@ ghost use Rattle.bit_matrix_area.specs.Area.{column, box, count_black, try_get_a
 use bit_matrix::{Sample, Shape};
 
 // How many pixels are black, unless one of them lies outside.
-#[derive(Drop)]
+#[derive(Clone, Copy)]
 enum Count {
     Outside,
     Black(u32),

@@ -1,4 +1,6 @@
 // The nine pixels of try_get_area of bit_matrix.rs, where each row of three lies in one stored word.
+#![tactic(auto)]
+
 ghost use Rattle.std.specs.Prelude.{true, ◌≡◌, ◌+◌, ◌*◌, ◌%◌, ◌≤◌, ◌<◌, leb, length};
 ghost use Rattle.reads.specs.Bits.{range};
 ghost use Rattle.bit_matrix.specs.ShapeClauses.{Limits, Image};

@@ -1,5 +1,7 @@
 // getEnclosingRectangle of bit_matrix.rs: the enclosing rectangle of an image's black pixels, by whole words. Its definition, `enclosing_rectangle`, goes
 // by pixels.
+#![tactic(auto)]
+
 ghost use Rattle.std.specs.Prelude.{◌≡◌, ◌<◌, length};
 ghost use Rattle.bit_matrix_rectangle.specs.Rectangle.{black_at, least_below, greatest_below, black_column, enclosing_rectangle};
 ghost use Rattle.bit_matrix_rectangle.specs.RectangleClauses.{ImageAccepted, is_set, Rows, ColumnWord};
@@ -7,7 +9,7 @@ ghost use Rattle.bit_matrix_rectangle.specs.RectangleClauses.{ImageAccepted, is_
 use bit_matrix::Shape;
 
 // A rectangle of pixels: its first column and row, and how many of each.
-#[derive(Drop)]
+#[derive(Clone, Copy)]
 pub struct Rectangle {
     pub left: u32,
     pub top: u32,
@@ -16,7 +18,7 @@ pub struct Rectangle {
 }
 
 // What `get_enclosing_rectangle` answers: no pixel is black, or the rectangle that encloses the black ones.
-#[derive(Drop)]
+#[derive(Clone, Copy)]
 pub enum Enclosing {
     Blank,
     Black(Rectangle),

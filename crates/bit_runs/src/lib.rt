@@ -1,5 +1,7 @@
 // The bits of a row by whole words: where the colour changes, and a range marked. A row is given by its first word, and a bit by its column: a flat
 // index of 64 × words need not fit a usize.
+#![tactic(auto)]
+
 ghost use Rattle.std.specs.Prelude.{◌≡◌, ◌+◌, ◌-◌, ◌*◌, ◌/◌, ◌%◌, ◌^◌, ◌≤◌, ◌<◌, min, get_or};
 ghost use Rattle.reads.specs.MasksLaws.{mask};
 ghost use Rattle.reads.specs.Bits.{range, mark_all};

@@ -1,4 +1,6 @@
 // The entries that read cells: an image, in words or in a crop file, is refused with a number, or its cells are read.
+#![tactic(auto)]
+
 ghost use Rattle.std.specs.Prelude.{◌≡◌};
 ghost use Rattle.crop_sizes.specs.Sizes.{misfit};
 ghost use Rattle.crop.specs.CropClauses.{or_six};

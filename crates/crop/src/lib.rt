@@ -1,4 +1,6 @@
 // Crop files and images in words: the number that refuses one, and a file unpacked into words.
+#![tactic(auto)]
+
 ghost use Rattle.std.specs.Prelude.{false, cond, ◌||◌, ◌≡◌, ◌≤◌, ◌<◌, length};
 ghost use Rattle.bit_matrix.specs.Shape.{row_words, shape_of, size};
 ghost use Rattle.crop_sizes.specs.Sizes.{misfit};
@@ -11,7 +13,7 @@ use bit_matrix::Shape;
 const KIND: u32 = 1;
 
 // What the check of a file gives: its number, and its image's shape, or that of no image where the file is refused.
-#[derive(Drop)]
+#[derive(Clone, Copy)]
 pub struct Checked {
     pub answer: u32,
     pub shape: Shape,

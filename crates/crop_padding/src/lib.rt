@@ -1,4 +1,6 @@
 // The padding of an image's rows, in a file and in words.
+#![tactic(auto)]
+
 ghost use Rattle.std.specs.Prelude.{◌≡◌, length};
 ghost use Rattle.bit_matrix.specs.Shape.{size};
 ghost use Rattle.bit_matrix.specs.ShapeClauses.{Limits};

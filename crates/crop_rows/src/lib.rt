@@ -1,4 +1,6 @@
 // A crop file's rows unpacked into words.
+#![tactic(auto)]
+
 ghost use Rattle.std.specs.Prelude.{◌≡◌, ◌+◌, ◌*◌, ◌-◌, ◌≤◌, ◌<◌, min, length};
 ghost use Rattle.reads.specs.Bits.{test_bit};
 ghost use Rattle.bit_matrix.specs.Shape.{size};

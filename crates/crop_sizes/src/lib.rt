@@ -1,4 +1,6 @@
 // The sizes of an image, in words and in a file, and the number that refuses a size.
+#![tactic(auto)]
+
 ghost use Rattle.std.specs.Prelude.{false, ◌≡◌};
 ghost use Rattle.bit_matrix.specs.Shape.{row_words, shape_of, size};
 ghost use Rattle.crop_sizes.specs.Sizes.{file_length, image_refusal};

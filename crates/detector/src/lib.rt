@@ -1,4 +1,6 @@
 // The entries of the finder: an image, in words or in a crop file, is refused with a number, or searched, with the ellipse check or without.
+#![tactic(auto)]
+
 ghost use Rattle.std.specs.Prelude.{◌≡◌, ◌≤◌, length};
 ghost use Rattle.bit_matrix.specs.ShapeClauses.{Image};
 ghost use Rattle.crop.specs.CropClauses.{Checks};
@@ -11,7 +13,7 @@ use detector_verdict::Counts;
 
 // What an entry reports: the answer, the sweep's candidates, those kept, and how many bits are marked.
 #[repr(C)]
-#[derive(Drop)]
+#[derive(Clone, Copy)]
 pub struct Report {
     pub answer: u32,
     pub found: u32,

@@ -1,4 +1,6 @@
 // A symbol's boundaries about a centre: `calculate_simple_boundary` of detector.rs.
+#![tactic(auto)]
+
 ghost use Rattle.std.specs.Prelude.{◌≡◌, ◌<◌, ◌≤◌, T, unsigned_abs};
 ghost use Rattle.detector_size.specs.SizeClauses.{is_scale};
 ghost use Rattle.detector_boundary.specs.Boundary.{clamped, boundary_of, plain_boundary, scaled_boundary};
@@ -9,7 +11,7 @@ use detector_size::Size;
 use rxing_result_point::PointU;
 
 // The four boundaries of a symbol, in the source's words: top is the larger row.
-#[derive(Drop)]
+#[derive(Clone, Copy)]
 pub struct Boundary {
     pub left: u32,
     pub right: u32,

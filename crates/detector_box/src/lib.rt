@@ -1,5 +1,7 @@
 // `box_symbol` of detector.rs: with the option on the ellipse check, then the scales, the plain box of the first centre, and the box turned about the
 // corrected centre where a scale finds a turn.
+#![tactic(auto)]
+
 ghost use Rattle.reads.specs.RunsClauses.{Ran};
 ghost use Rattle.detector_turn.specs.ScalesClauses.{LentCircle};
 ghost use Rattle.detector_box.specs.Boxes.{turn_at, symbol_at};

@@ -1,4 +1,6 @@
 // The box and turn of each kept record, in rank order: `box_symbol` of detector.rs for each circle that `detect` keeps.
+#![tactic(auto)]
+
 ghost use Rattle.reads.specs.RunsClauses.{Ran};
 ghost use Rattle.sines.specs.Sines.{sines};
 ghost use Rattle.std.specs.Prelude.{◌≡◌};

@@ -1,4 +1,6 @@
 // One search of a row in `find_concentric_circles` of detector.rs: a candidate's record, and where the next search starts.
+#![tactic(auto)]
+
 ghost use Rattle.std.specs.Prelude.{◌≡◌, ◌++◌, ◌+◌, ◌^◌, ◌≤◌, ◌<◌, take, drop};
 ghost use Rattle.reads.specs.RunsClauses.{Ran};
 ghost use Rattle.bit_matrix.specs.ShapeClauses.{Image};
@@ -9,7 +11,7 @@ use bit_matrix::Shape;
 use detector_window::Bullseye;
 
 // What one search of a row gives: whether a bull's-eye passed, and then its record; whether the row ends, and otherwise where the next search starts.
-#[derive(Drop)]
+#[derive(Clone, Copy)]
 pub struct Searched {
     pub passed: bool,
     pub ended: bool,

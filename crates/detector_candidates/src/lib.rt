@@ -1,4 +1,6 @@
 // `find_concentric_circles` of detector.rs: the candidates of an image, into the record buffer that stands for the source's vector of circles.
+#![tactic(auto)]
+
 ghost use Rattle.std.specs.Prelude.{◌<◌};
 ghost use Rattle.bit_matrix.specs.ShapeClauses.{Image};
 ghost use Rattle.records.specs.Records.{rows};

@@ -1,4 +1,6 @@
 // read_bits of detector.rs: the 33 rows of 30 cells of a symbol that fills the image. Bit c of a row's word is its column c. Nothing is marked here.
+#![tactic(auto)]
+
 ghost use Rattle.std.specs.Prelude.{◌≡◌, ◌<◌, length};
 ghost use Rattle.bit_matrix.specs.Shape.{size};
 ghost use Rattle.bit_matrix.specs.ShapeClauses.{Limits, Inside};

@@ -1,5 +1,7 @@
 // `calculate_high_accuracy_center` of detector.rs: the centre of the circle through three ends of walks, as a pixel. Each stored bit that the walks read is
 // marked.
+#![tactic(auto)]
+
 ghost use Rattle.std.specs.Prelude.{◌≡◌};
 ghost use Rattle.reads.specs.RunsClauses.{Ran};
 ghost use Rattle.detector_walks.specs.WalksClauses.{Lent};

@@ -1,4 +1,6 @@
 // `calculate_high_accuracy_center` of detector.rs: the corrected centre, written into a circle that is lent.
+#![tactic(auto)]
+
 ghost use Rattle.reads.specs.RunsClauses.{Ran};
 ghost use Rattle.detector_walks.specs.WalksClauses.{Lent};
 ghost use Rattle.detector_circle.specs.Circle.{corrected_circle};
@@ -7,7 +9,7 @@ use bit_matrix::Shape;
 use rxing_result_point::PointU;
 
 // What the centre's correction has of the source's circle; the image is lent beside it, and the runs have no part in it.
-#[derive(Drop)]
+#[derive(Clone, Copy)]
 pub struct Circle {
     pub center: PointU,
     pub radius: u32,

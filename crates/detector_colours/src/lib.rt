@@ -1,4 +1,6 @@
 // The test of a degree in `attempt_rotation_box` of detector.rs: eighteen points about the centre, turned by an angle, each with its colour.
+#![tactic(auto)]
+
 ghost use Rattle.std.specs.Prelude.{◌≡◌, ◌<◌};
 ghost use Rattle.reads.specs.RunsClauses.{Ran};
 ghost use Rattle.bit_matrix.specs.ShapeClauses.{Image};
@@ -10,7 +12,7 @@ use rxing_result_point::Point;
 use sines::Angle;
 
 // What a degree's test answers. A point whose area passes the last column or row ends the scale.
-#[derive(Drop)]
+#[derive(Clone, Copy)]
 pub enum Degree {
     Found,
     WrongColour,

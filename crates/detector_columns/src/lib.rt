@@ -1,4 +1,6 @@
 // The vertical check of detector.rs: the runs of a column up and down from a row, and whether they are as wide as a bull's-eye's.
+#![tactic(auto)]
+
 ghost use Rattle.std.specs.Prelude.{◌≡◌, ◌+◌, ◌^◌, ◌≤◌, ◌<◌, get_or};
 ghost use Rattle.reads.specs.RunsClauses.{Ran};
 ghost use Rattle.bit_matrix.specs.ShapeClauses.{Image};
@@ -8,7 +10,7 @@ ghost use Rattle.detector_columns.specs.ColumnsClauses.{try_column, verify_bulls
 use bit_matrix::Shape;
 
 // What the vertical check answers: whether a column passed, and the eleven runs of the last one tried.
-#[derive(Drop)]
+#[derive(Clone, Copy)]
 pub struct Verified {
     pub good: bool,
     pub buckets: [u32; 11],

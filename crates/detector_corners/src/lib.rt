@@ -1,4 +1,6 @@
 // The corners of a symbol's box in `box_symbol` of detector.rs: plain, or turned about the corrected centre; zeros for an ellipse, which has no box.
+#![tactic(auto)]
+
 ghost use Rattle.std.specs.Prelude.{◌≡◌};
 ghost use Rattle.sines.specs.Sines.{sines};
 ghost use Rattle.detector_boundary.specs.BoundaryClauses.{Placed};

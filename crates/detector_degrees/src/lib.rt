@@ -1,4 +1,6 @@
 // The loop over degrees in `attempt_rotation_box` of detector.rs: eighteen points about the centre, turned degree by degree, until each has its colour.
+#![tactic(auto)]
+
 ghost use Rattle.std.specs.Prelude.{◌≡◌, ℕ, ◌+◌, ◌≤◌};
 ghost use Rattle.reads.specs.RunsClauses.{Ran};
 ghost use Rattle.bit_matrix.specs.ShapeClauses.{Image};
@@ -12,7 +14,7 @@ use detector_colours::Degree;
 use rxing_result_point::{Point, PointU};
 
 // The first degree at which every point has its colour.
-#[derive(Drop)]
+#[derive(Clone, Copy)]
 pub enum Rotation {
     Found(u32),
     None,

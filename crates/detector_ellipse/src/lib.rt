@@ -1,5 +1,7 @@
 // `detect_ellipse` of detector.rs: whether the ends of 72 walks from a centre lie in an ellipse about it. Each stored bit that the walks read is marked.
 // The walks that the source repeats at its end are left out: they read nothing new, and nobody uses their ends.
+#![tactic(auto)]
+
 ghost use Rattle.std.specs.Prelude.{◌≡◌, ◌<◌, ◌≤◌, min, max, if◌then◌else◌};
 ghost use Rattle.reads.specs.Bits.{bit_at};
 ghost use Rattle.reads.specs.RunsClauses.{Ran};

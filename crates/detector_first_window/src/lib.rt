@@ -1,4 +1,6 @@
 // The first window of a row, for `find_next_bullseye_horizontal` of detector.rs, run by run: where the colour changes is found by whole words.
+#![tactic(auto)]
+
 ghost use Rattle.std.specs.Prelude.{◌≡◌, ◌+◌, ◌-◌, ◌*◌, ◌%◌, ◌^◌, ◌≤◌, ◌<◌, min, length};
 ghost use Rattle.bit_matrix.specs.Shape.{size};
 ghost use Rattle.bit_matrix.specs.ShapeClauses.{Limits};

@@ -1,5 +1,7 @@
 // The candidates of a sweep whose centres lie within the deviation, ranked by variance, as `detect` of detector.rs has
 // them. The record buffer stands for its `Vec<Circle>`.
+#![tactic(auto)]
+
 ghost use Rattle.std.specs.Prelude.{◌≡◌, ◌+◌, ◌*◌, ◌≤◌, ◌<◌, length};
 ghost use Rattle.records.specs.Records.{rows};
 ghost use Rattle.records.specs.RecordsClauses.{get};
@@ -10,7 +12,7 @@ ghost use Rattle.detector_kept.specs.KeptClauses.{Retained, Candidates, KeptAndR
 ghost use Rattle.std.specs.Float.Ieee as Ieee;
 
 // How far the centres go, and about which mean: both truncated.
-#[derive(Drop)]
+#[derive(Clone, Copy)]
 pub struct Spread {
     pub dev_x: u32,
     pub dev_y: u32,
@@ -19,7 +21,7 @@ pub struct Spread {
 }
 
 // The same for one coordinate.
-#[derive(Drop)]
+#[derive(Clone, Copy)]
 struct Axis {
     dev: u32,
     mean: u32,

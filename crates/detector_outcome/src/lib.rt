@@ -1,11 +1,13 @@
 // What `box_symbol` of detector.rs comes to: a turn in each of its four cases, its words in a record, and the class of a symbol.
+#![tactic(auto)]
+
 ghost use Rattle.std.specs.Prelude.{◌≡◌, ◌<◌};
 ghost use Rattle.detector_outcome.specs.Outcomes.{turned_by, not_turned, lost_at, ellipse_at, outcome_number, rotation_bits, quarter_of, class_of};
 
 use rxing_result_point::PointU;
 
 // What the scales come to, or an ellipse, for which none is tried. With a turn its degrees, as f32.
-#[derive(Drop)]
+#[derive(Clone, Copy)]
 pub enum Outcome {
     Turned(f32),
     NoTurn,
@@ -14,7 +16,7 @@ pub enum Outcome {
 }
 
 // What was found: the degree of the turn (0 without one), the scale that turned or lost the centre (0 without), and the last centre inside the image.
-#[derive(Drop)]
+#[derive(Clone, Copy)]
 pub struct Turn {
     pub outcome: Outcome,
     pub degree: u32,

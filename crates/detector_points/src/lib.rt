@@ -1,5 +1,7 @@
 // The orientation points of a symbol as pixels: `adjust_point_alternate` and `get_adjusted_points` of detector.rs. They take a
 // boundary and nothing of the circle or the scale that it comes from.
+#![tactic(auto)]
+
 ghost use Rattle.std.specs.Prelude.{◌≡◌, min, T};
 ghost use Rattle.detector_boundary.specs.BoundaryClauses.{Placed};
 ghost use Rattle.detector_points.specs.Orientation.{adjusted_point, adjusted_points, orientation_points};

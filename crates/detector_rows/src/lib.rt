@@ -1,4 +1,6 @@
 // `find_next_bullseye_horizontal` of detector.rs. White is skipped by whole words, and what was read is marked by whole words, once.
+#![tactic(auto)]
+
 ghost use Rattle.std.specs.Prelude.{◌≡◌, ◌+◌, ◌-◌, ◌*◌, max};
 ghost use Rattle.reads.specs.RunsClauses.{Ran};
 ghost use Rattle.bit_matrix.specs.ShapeClauses.{Limits, Image};

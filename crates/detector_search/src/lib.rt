@@ -1,5 +1,7 @@
 // `detect` of detector.rs up to the box, in three parts: the sweep, the verdict on its candidates, and the box and turn of each kept record, with the
 // ellipse check on or off.
+#![tactic(auto)]
+
 ghost use Rattle.bit_matrix.specs.ShapeClauses.{Image};
 ghost use Rattle.detector_candidates.specs.CandidatesClauses.{Room};
 ghost use Rattle.detector_search.specs.Search.{search_at};
@@ -9,7 +11,7 @@ use bit_matrix::Shape;
 use detector_verdict::Counts;
 
 // What a search is told: the image's shape, how many records there is room for, and whether ellipses are told from circles.
-#[derive(Drop)]
+#[derive(Clone, Copy)]
 pub struct Setting {
     pub shape: Shape,
     pub capacity: usize,

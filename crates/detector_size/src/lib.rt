@@ -1,9 +1,11 @@
 // The size of a symbol guessed from the radius of its bull's-eye: `guess_barcode_size_general` and `guess_barcode_size` of detector.rs.
+#![tactic(auto)]
+
 ghost use Rattle.std.specs.Prelude.{◌≡◌, ◌<◌};
 ghost use Rattle.detector_size.specs.Size.{guessed_size, plain_size};
 
 // A symbol's width and height in pixels.
-#[derive(Drop)]
+#[derive(Clone, Copy)]
 pub struct Size {
     pub width: u32,
     pub height: u32,

@@ -1,4 +1,6 @@
 // A symbol, and its words in a record.
+#![tactic(auto)]
+
 ghost use Rattle.std.specs.Prelude.{◌≡◌, ◌<◌, length};
 ghost use Rattle.std.proofs.lemmas.List.Edits.{sets};
 ghost use Rattle.detector_symbol.specs.Symbols.{corner_words, with_symbol};
@@ -7,7 +9,7 @@ use detector_outcome::Turn;
 use rxing_result_point::Point;
 
 // A symbol's turn, its corners (left, bottom), (left, top), (right, bottom), (right, top), and its class.
-#[derive(Drop)]
+#[derive(Clone, Copy)]
 pub struct Symbol {
     pub turn: Turn,
     pub corners: [Point; 4],

@@ -1,5 +1,7 @@
 // The loop over `ACCEPTED_SCALES` in `box_symbol` of detector.rs, and `attempt_rotation_box` for one of them. Each scale first replaces the centre by the
 // corrected one. Each stored bit that is read is marked.
+#![tactic(auto)]
+
 ghost use Rattle.std.specs.Prelude.{◌≡◌, ◌≤◌, ◌<◌, T};
 ghost use Rattle.reads.specs.RunsClauses.{Ran};
 ghost use Rattle.detector_size.specs.SizeClauses.{is_scale};

@@ -1,5 +1,7 @@
 // `calculate_circle_variance` of detector.rs: how far a candidate's runs are from even, in f32. The helpers over floats
 // ask nothing of their argument, so no function's proof needs a float's range.
+#![tactic(auto)]
+
 ghost use Rattle.std.specs.Prelude.{◌≡◌, ◌<◌, slice_index};
 ghost use Rattle.detector_variance.specs.Variance.{evens, odds, others, width_to, further, variance_to, expected_area, area_variance, circle_variance};
 ghost use Rattle.detector_variance.specs.VarianceClauses.{Short};

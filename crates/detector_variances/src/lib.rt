@@ -1,4 +1,6 @@
 // `calculate_circle_variance` of detector.rs for each kept candidate, into its record.
+#![tactic(auto)]
+
 ghost use Rattle.std.specs.Prelude.{◌≡◌, map, ◌+◌, ◌*◌, ◌≤◌, length};
 ghost use Rattle.records.specs.Records.{rows};
 ghost use Rattle.records.specs.RecordsClauses.{get, Became, Each};

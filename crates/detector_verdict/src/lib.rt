@@ -1,10 +1,12 @@
 // What `detect` of detector.rs comes to after the sweep: the answer and the counts, and the kept candidates, ranked, in the record buffer.
+#![tactic(auto)]
+
 ghost use Rattle.std.specs.Prelude.{List, ◌^◌, ◌<◌, ◌≡◌};
 ghost use Rattle.records.specs.Records.{Record};
 ghost use Rattle.detector_verdict.specs.VerdictClauses.{Judgeable, Holds, Judged};
 
 // What a search reports: its answer, the sweep's candidates, and those kept.
-#[derive(Drop)]
+#[derive(Clone, Copy)]
 pub struct Counts {
     pub answer: u32,
     pub found: u32,

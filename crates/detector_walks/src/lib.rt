@@ -1,5 +1,7 @@
 // `find_width_at_degree` of detector.rs: the walks from a centre to the left and to the right, column by column of the centre's row, each
 // point turned about the centre, until one is black or lies past the image's last word. Each stored bit that is read is marked.
+#![tactic(auto)]
+
 ghost use Rattle.std.specs.Prelude.{true, false, ◌≡◌, ◌+◌, ◌^◌, ◌≤◌, ◌<◌};
 ghost use Rattle.reads.specs.RunsClauses.{Ran};
 ghost use Rattle.bit_matrix.specs.ShapeClauses.{Image, Inside};
@@ -14,7 +16,7 @@ use rxing_result_point::{Point, PointU};
 use sines::Angle;
 
 // What the two walks at a degree come to: how many steps they took together, and the points where they end.
-#[derive(Drop)]
+#[derive(Clone, Copy)]
 pub struct Width {
     pub length: u32,
     pub left: Point,

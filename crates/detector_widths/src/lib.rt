@@ -1,5 +1,7 @@
 // `validate_bullseye_widths` of detector.rs: whether eleven runs are as wide as a bull's-eye's. In whole numbers, and
 // equal to the source's f32 test (`same_widths`, specs/SameWidthsLaws.antt).
+#![tactic(auto)]
+
 ghost use Rattle.std.specs.Prelude.{◌≡◌, ◌^◌, ◌<◌};
 ghost use Rattle.detector_widths.specs.Widths.{at, passes, even_runs_pass, odd_runs_pass, valid_widths};
 

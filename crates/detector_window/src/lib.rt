@@ -1,12 +1,14 @@
 // The eleven runs of a window, and `get_bullseye_metadata` of detector.rs. The last runs are kept by the columns where they start, in a ring of
 // sixteen, so that nothing is shifted.
+#![tactic(auto)]
+
 ghost use Rattle.std.specs.Prelude.{◌≡◌, ◌+◌, ◌-◌, ◌%◌, ◌^◌, ◌≤◌, ◌<◌, length, get_or};
 ghost use Rattle.reads.specs.Total.{total};
 ghost use Rattle.detector_window.specs.Window.{metadata, none};
 ghost use Rattle.detector_window.specs.Ring.{buckets_of, closing};
 
 // A window of eleven runs that passed: its centre and radius, and its runs. Where none was found all is zero.
-#[derive(Drop)]
+#[derive(Clone, Copy)]
 pub struct Bullseye {
     pub found: bool,
     pub center: u32,

@@ -1,4 +1,6 @@
 // Reads a crop on standard input, searches it with room for 400 records, and prints the line of the report and one for each kept record.
+#![tactic(auto)]
+
 ghost use Rattle.std.specs.Prelude.{◌≡◌, List, ℕ, ◌≤◌, length};
 ghost use Rattle.bit_matrix.specs.Shape.{row_words};
 ghost use Rattle.crop.specs.CropClauses.{Checks};

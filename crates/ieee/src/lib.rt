@@ -3,6 +3,8 @@
 // numbers only, and faster. Each contract is one equation with a definition, of the logic's account
 // of IEEE 754 (`lib.Ieee`) or of specs/, for every float, NaNs too; of those two for every float that
 // they ask for.
+#![tactic(auto)]
+
 mod bits;
 mod casts;
 

@@ -1,5 +1,7 @@
 // The square root: an estimate in floats, tested and mended in whole numbers. Where the estimate is
 // no good, a binary digit a turn.
+#![tactic(auto)]
+
 ghost use Rattle.std.specs.Prelude.{◌≡◌, false, ◌+◌, ◌-◌, ◌*◌, ◌%◌, ◌^◌, ◌≤◌, ◌<◌, T, pos};
 ghost use Rattle.std.specs.Float.Ieee as Ieee;
 ghost use Rattle.std.specs.Float.{fin, inf, binary64};
@@ -10,7 +12,7 @@ ghost use Rattle.ieee_sqrt.specs.Sqrt.{sqrt};
 const HIDDEN: u64 = 0x10_0000_0000_0000;
 
 // The whole number digits * 2 ^ exponent.
-#[derive(Drop)]
+#[derive(Clone, Copy)]
 struct Parts {
     digits: u64,
     exponent: u64,

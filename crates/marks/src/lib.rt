@@ -1,4 +1,6 @@
 // The marks of an image, one word for each of its words: cleared and counted.
+#![tactic(auto)]
+
 ghost use Rattle.std.specs.Prelude.{◌≡◌, ◌^◌, ◌<◌, length};
 ghost use Rattle.reads.specs.Bits.{zeros};
 ghost use Rattle.marks.specs.Marks.{ones_of};

@@ -1,4 +1,6 @@
 // A lent buffer of words as records of 40 words: record i is words 40 * i to 40 * i + 39.
+#![tactic(auto)]
+
 ghost use Rattle.std.specs.Prelude.{◌≡◌, ◌+◌, ◌*◌, ◌≤◌, ◌++◌, length, take, drop, replicate};
 ghost use Rattle.records.specs.Records.{capacity_of};
 ghost use Rattle.records.specs.RecordsClauses.{get, put};

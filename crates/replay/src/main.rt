@@ -1,6 +1,8 @@
 // Replays the stored vectors of standard input (oracle/src/vectors.rs has their layout). Each crop file is searched in lent buffers that hold a pattern
 // before; the report and every word of the buffers are compared with what the vector says. It writes the name of each vector that comes out otherwise,
 // then how many vectors there were and how many of them wrong.
+#![tactic(auto)]
+
 mod lent;
 mod pack;
 
@@ -16,7 +18,7 @@ use detector::Report;
 use libc::{STDIN_FILENO, STDOUT_FILENO};
 
 // How many vectors there were, how many of them wrong, and whether they fill the pack.
-#[derive(Drop)]
+#[derive(Clone, Copy)]
 struct Counts {
     vectors: u64,
     wrong: u64,

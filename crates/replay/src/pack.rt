@@ -3,7 +3,7 @@ ghost use Rattle.std.specs.Prelude.{◌≡◌, ◌+◌, ◌*◌, ◌^◌, ◌<�
 ghost use Rattle.replay.specs.Pack.{le32, le64, accepted, records_at, kept_words, cleared_words, marks_at, mark_words, size_of};
 
 // What a vector says: whether the ellipse check is on, the lengths of the lent words, records and marks and of the file, and the report.
-#[derive(Drop)]
+#[derive(Clone, Copy)]
 pub struct Vector {
     pub ellipse: u32,
     pub words: u32,

@@ -1,6 +1,8 @@
 // Runs the square root on the vectors of standard input: a line for each, the bit pattern of an f64
 // and that of its root, in 16 hexadecimal digits. It writes a line for each root that came out
 // otherwise, and then how many vectors there were and how many of them wrong.
+#![tactic(auto)]
+
 ghost use Rattle.std.specs.Prelude.{◌+◌, ◌≤◌, length};
 
 use libc::{STDIN_FILENO, STDOUT_FILENO};

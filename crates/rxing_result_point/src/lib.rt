@@ -1,5 +1,7 @@
 // Points of rxing_result_point.rs, and a point turned about a centre (`get_point` of detector.rs), each operation rounded
 // once and in the source's order.
+#![tactic(auto)]
+
 ghost use Rattle.std.specs.Prelude.{◌≡◌};
 ghost use Rattle.sines.specs.Sines.{sines};
 ghost use Rattle.rxing_result_point.specs.Points.{turned, get_point, rounded};
@@ -7,14 +9,14 @@ ghost use Rattle.rxing_result_point.specs.Points.{turned, get_point, rounded};
 use sines::Angle;
 
 // A pair of f32 coordinates: a corner, a walk's end, a circle's centre.
-#[derive(Drop)]
+#[derive(Clone, Copy)]
 pub struct Point {
     pub x: f32,
     pub y: f32,
 }
 
 // A pixel's column and row.
-#[derive(Drop)]
+#[derive(Clone, Copy)]
 pub struct PointU {
     pub x: u32,
     pub y: u32,

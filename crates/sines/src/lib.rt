@@ -1,10 +1,12 @@
 // The sines and cosines of the whole degrees, from a table that a caller makes once and lends: an array
 // constant is copied at each use.
+#![tactic(auto)]
+
 ghost use Rattle.std.specs.Prelude.{◌≡◌};
 ghost use Rattle.sines.specs.Sines.{sines, sine_of, cosine_of, angle_of};
 
 // An angle's sine and cosine.
-#[derive(Drop)]
+#[derive(Clone, Copy)]
 pub struct Angle {
     pub sin: f32,
     pub cos: f32,

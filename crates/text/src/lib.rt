@@ -1,4 +1,6 @@
 // Bytes and numbers as text in a lent buffer. Each function puts its text at a place and answers the place after it.
+#![tactic(auto)]
+
 ghost use Rattle.std.specs.Prelude.{◌≡◌, ◌++◌, ◌+◌, ◌≤◌, length};
 ghost use Rattle.text.specs.Text.{ascii, decimal_of, hex_of, Puts};
 

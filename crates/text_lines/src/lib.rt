@@ -1,4 +1,6 @@
 // The lines of a report and of a record, as text in a lent buffer. Each function puts its text at a place and answers the place after it.
+#![tactic(auto)]
+
 ghost use Rattle.std.specs.Prelude.{◌≡◌, [], ◌∷◌, map, ◌+◌, ◌≤◌, length};
 ghost use Rattle.text.specs.Text.{decimal_of, hex_of, Puts};
 ghost use Rattle.text_lines.specs.Lines.{following, parted, degrees_of, corner_fields, report_line, record_line};

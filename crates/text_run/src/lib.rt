@@ -1,4 +1,6 @@
 // What a run prints, as text in a lent buffer: the line of its report, and one for each kept record.
+#![tactic(auto)]
+
 ghost use Rattle.std.specs.Prelude.{◌+◌, ◌*◌, ◌≤◌, length};
 ghost use Rattle.text.specs.Text.{Puts};
 ghost use Rattle.text_run.specs.RunText.{record_lines, run_text, fitting_text};

@@ -1,4 +1,6 @@
 // What the Rust host calls. A slice crosses as its pointer and its length, a report as a C struct of four u32, an option as a u32: 0 is off, any other on.
+#![tactic(auto)]
+
 ghost use Rattle.std.specs.Prelude.{◌≡◌, length};
 ghost use Rattle.crop.specs.Crop.{refusal, Unpacks};
 ghost use Rattle.text.specs.Text.{Puts};
