@@ -18,4 +18,6 @@ every_at test (suc n) t k h = elim (eq-or-lt_of_le (le_of_suc-le-suc h)) [
 
 pub same_truth : (p q : Bool) → T (beq p q) → p ≡ q
 same_truth true true t = refl
+same_truth true false t = elim t [ ]
+same_truth false true t = elim t [ ]
 same_truth false false t = refl
