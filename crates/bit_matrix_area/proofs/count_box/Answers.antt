@@ -1,6 +1,6 @@
 -- `bit_matrix::count_box` meets its contract. The invariant is `Counting`: from the present column, what is left of the definition ends as the whole does.
--- The measure is the columns left. Assumes nothing.
-use Prim.Native.Nat.{ℕ, suc, ◌+◌, ◌-◌, ◌*◌, ◌^◌, ◌≤◌, ◌<◌}
+-- The measure is the columns left.
+use Prim.Native.Nat.{ℕ, suc, ◌+◌, ◌-◌, ◌^◌, ◌≤◌, ◌<◌}
 use mathlib.Core.Path.{◌≡◌, ◌∙◌}
 use mathlib.Core.List.{List, ◌++◌, flat_map}
 use native.Mathlib.Omega.{arith}
@@ -14,16 +14,8 @@ use Rattle.bit_matrix_area.specs.Area.{column, box, count_black}
 use Rattle.bit_matrix_area.proofs.AreaLaws.{count_append, ran_few, length_column}
 use Rattle.bit_matrix_area.specs.declared.Count.{Count}
 use Rattle.bit_matrix_area.specs.declared.Count.TheVariants.{Outside, Black}
-use Rattle.bit_matrix_area.proofs.count_box.Statement.{statement}
-use Rattle.bit_matrix_area.proofs.count_box.Tie as tie
-
-record Counting (words marks₀ : List ℕ) (shape : Shape) (left right from to : ℕ) (marks : List ℕ) (black x : ℕ) : Type 0 where
-  sized : length marks ≡ length words
-  begun : left ≤ x
-  few : black ≤ 3 * (x - left)
-  resumes : Resumes words
-      (count_black shape (box x right from to) black) marks
-      (count_black shape (box left right from to) 0) marks₀
+use Rattle.bit_matrix_area.proofs.count_box.Invariants.{Counting}
+use Rattle.bit_matrix_area.proofs.count_box.Goals as goal
 
 begins : {words marks : List ℕ} {shape : Shape} {left right from to : ℕ} → length marks ≡ length words
     → Counting words marks shape left right from to marks 0 left
@@ -66,59 +58,17 @@ module _ {words marks₀ marks : List ℕ} {shape : Shape} {left right from to b
           resumes = resumes_step _ (rw e at ran) (rw count_append at next);
         }
 
-abbrev invariant-loop : tie.invariant-loop
-invariant-loop words marks₀ shape left right from to black₀ x₀ marks black x = Counting words marks₀ shape left right from to marks black x
+pub loop-x-init : goal.loop-x-init
+loop-x-init c = search begins
 
-abbrev decreases-loop : tie.decreases-loop
-decreases-loop words marks₀ shape left right from to black₀ x₀ marks black x = right - x
+pub count_column-count-requires : goal.count_column-count-requires
+count_column-count-requires c = search (rules, room)
 
-loop-holds : tie.Need-loop-init invariant-loop decreases-loop
-loop-holds c = search begins
+pub returns-in-Outside : goal.returns-in-Outside
+returns-in-Outside c = search outside
 
-count-column-requires : tie.Need-count-column-requires invariant-loop decreases-loop
-count-column-requires c κs = search (rules, room)
+pub loop-x-preserved : goal.loop-x-preserved
+loop-x-preserved c = search onward
 
-enum_told : tie.Need-enum-told invariant-loop decreases-loop
-enum_told c = search rules
-
-same_length : tie.Need-same-length invariant-loop decreases-loop
-same_length c = search rules
-
-returns : tie.Need-returns invariant-loop decreases-loop
-returns c = search outside
-
-enum-known-count : tie.Need-enum-known-count invariant-loop decreases-loop
-enum-known-count c = search rules
-
-add-x : tie.Need-overflow-add-x invariant-loop decreases-loop
-add-x c = search rules
-
-loop-less : tie.Need-loop-smaller invariant-loop decreases-loop
-loop-less c = search rules
-
-loop-again : tie.Need-loop-preserved invariant-loop decreases-loop
-loop-again c = search onward
-
-same-length-2 : tie.Need-same-length-2 invariant-loop decreases-loop
-same-length-2 c = search rules
-
-returns-2 : tie.Need-returns-2 invariant-loop decreases-loop
-returns-2 c = search at_end
-
-pub count_box_spec : {M : Type 1} → statement M
-count_box_spec =
-    tie.close
-    (tie.spec
-    invariant-loop
-    decreases-loop
-    loop-holds
-    count-column-requires
-    enum_told
-    same_length
-    returns
-    enum-known-count
-    add-x
-    loop-less
-    loop-again
-    same-length-2
-    returns-2)
+pub returns : goal.returns
+returns c = search at_end

@@ -1,15 +1,14 @@
 -- `bit_matrix::count_column` meets its contract. The invariant is `Counting`: from the present row, what is left of the definition ends as the whole does.
--- The measure is the rows left. Assumes nothing.
+-- The measure is the rows left.
 use Prim.Native.Nat.{ℕ, suc, ◌+◌, ◌-◌, ◌^◌, ◌≤◌, ◌<◌}
 use mathlib.Core.Path.{◌≡◌, ◌∙◌}
 use mathlib.Core.Bool.{Bool}
 use mathlib.Core.List.{List}
 use native.Mathlib.Omega.{arith}
-use borrow.Author.Rules.{rules}
 use lib.ListN.{length}
 use Rattle.reads.specs.Bits.{digit, range}
 use Rattle.reads.specs.BitsLaws.{digit_low}
-use Rattle.reads.specs.RunsClauses.{Ran, Resumes}
+use Rattle.reads.specs.RunsClauses.{Ran}
 use Rattle.reads.specs.RunsLaws.{ran_done, resumes_start, resumes_step, resumes_end}
 use Rattle.bit_matrix.specs.declared.Shape.{Shape}
 use Rattle.bit_matrix.specs.Pixels.{try_get}
@@ -17,15 +16,8 @@ use Rattle.bit_matrix_area.specs.Area.{column, count_black}
 use Rattle.bit_matrix.specs.declared.Sample.{Sample}
 use Rattle.bit_matrix.specs.declared.Sample.TheVariants.{Outside, Inside}
 use Rattle.bit_matrix_area.specs.declared.Count.TheVariants as counts
-use Rattle.bit_matrix_area.proofs.count_column.Statement.{statement}
-use Rattle.bit_matrix_area.proofs.count_column.Tie as tie
-
-record Counting (words marks₀ : List ℕ) (shape : Shape) (x from to black : ℕ) (marks : List ℕ) (count y : ℕ) : Type 0 where
-  sized : length marks ≡ length words
-  room : count + (to - y) < 2 ^ 32
-  resumes : Resumes words
-      (count_black shape (column x y to) count) marks
-      (count_black shape (column x from to) black) marks₀
+use Rattle.bit_matrix_area.proofs.count_column.Invariants.{Counting}
+use Rattle.bit_matrix_area.proofs.count_column.Goals as goal
 
 begins : {words marks : List ℕ} {shape : Shape} {x from to black : ℕ} → length marks ≡ length words → black + (to - from) < 2 ^ 32
     → Counting words marks shape x from to black marks black from
@@ -61,67 +53,17 @@ module _ {words marks₀ marks : List ℕ} {shape : Shape} {x from to black coun
         resumes = resumes_step _ (rw e at ran) (rw left at counting.resumes);
       }
 
-abbrev invariant-loop : tie.invariant-loop
-invariant-loop words marks₀ shape x from to black count₀ y₀ marks count y = Counting words marks₀ shape x from to black marks count y
+pub loop-y-init : goal.loop-y-init
+loop-y-init c = search begins
 
-abbrev decreases-loop : tie.decreases-loop
-decreases-loop words marks₀ shape x from to black count₀ y₀ marks count y = to - y
+pub returns-in-Outside : goal.returns-in-Outside
+returns-in-Outside c = search outside
 
-loop-holds : tie.Need-loop-init invariant-loop decreases-loop
-loop-holds c = search begins
+pub overflow_add-count : goal.overflow_add-count
+overflow_add-count c = record { fits = search room_for }
 
-try-get-requires : tie.Need-try-get-requires invariant-loop decreases-loop
-try-get-requires c κs = search rules
+pub loop-y-preserved : goal.loop-y-preserved
+loop-y-preserved c = search onward
 
-enum_told : tie.Need-enum-told invariant-loop decreases-loop
-enum_told c = search rules
-
-same_length : tie.Need-same-length invariant-loop decreases-loop
-same_length c = search rules
-
-returns : tie.Need-returns invariant-loop decreases-loop
-returns c = search outside
-
-enum-known-sample : tie.Need-enum-known-sample invariant-loop decreases-loop
-enum-known-sample c = search rules
-
-cast-count : tie.Need-overflow-cast-count invariant-loop decreases-loop
-cast-count c = search rules
-
-add-count : tie.Need-overflow-add-count invariant-loop decreases-loop
-add-count c = record { fits = search room_for }
-
-add-y : tie.Need-overflow-add-y invariant-loop decreases-loop
-add-y c = search rules
-
-loop-less : tie.Need-loop-smaller invariant-loop decreases-loop
-loop-less c = search rules
-
-loop-again : tie.Need-loop-preserved invariant-loop decreases-loop
-loop-again c = search onward
-
-same-length-2 : tie.Need-same-length-2 invariant-loop decreases-loop
-same-length-2 c = search rules
-
-returns-2 : tie.Need-returns-2 invariant-loop decreases-loop
-returns-2 c = search at_end
-
-pub count_column_spec : {M : Type 1} → statement M
-count_column_spec =
-    tie.close
-    (tie.spec
-    invariant-loop
-    decreases-loop
-    loop-holds
-    try-get-requires
-    enum_told
-    same_length
-    returns
-    enum-known-sample
-    cast-count
-    add-count
-    add-y
-    loop-less
-    loop-again
-    same-length-2
-    returns-2)
+pub returns : goal.returns
+returns c = search at_end

@@ -1,0 +1,45 @@
+-- `bit_matrix_area::try_get_area` meets its contract: the area is taken by words where they hold it, and by pixels elsewhere; past the width or height
+-- nothing is read.
+use Prim.Native.Nat.{ℕ, ◌+◌, ◌-◌, ◌<◌}
+use mathlib.Core.List.{List}
+use mathlib.Core.Logic.{inl, inr}
+use mathlib.Core.Path.{◌≡◌}
+use native.Mathlib.Omega.{arith}
+use borrow.Author.Rules.{rules}
+use lib.ListN.{length}
+use Rattle.bit_matrix.specs.declared.Shape.{Shape}
+use Rattle.bit_matrix.specs.ShapeClauses.{Image, Inside}
+use Rattle.bit_matrix.specs.Pixels.{offset}
+use Rattle.bit_matrix.specs.PixelsLaws.{inside_stored}
+use Rattle.bit_matrix_nine.specs.AreaWords.{InWords}
+use Rattle.bit_matrix_area.proofs.AreaLaws.{area_outside}
+use Rattle.bit_matrix_area.proofs.NineLaws.{area_in_words}
+use Rattle.bit_matrix_area.proofs.try_get_area.Goals as goal
+
+last_row : {shape : Shape} {x y : ℕ} {words marks : List ℕ} → Image shape words marks → InWords shape x y → offset shape (x - 1) (y - 1 + 2) < length words
+last_row {shape} {x} {y} image inside =
+    let same : y - 1 + 2 ≡ y + 1 = omega (arith, inside.top) in
+    let below : Inside shape (x - 1) (y + 1) = record { column = omega (arith, inside.right); row = inside.bottom } in
+    rw (same, image.stored) (inside_stored image.limits (x - 1) (y + 1) below)
+
+pub overflow_sub-x : goal.overflow_sub-x
+overflow_sub-x c = omega (arith, (c.in_words.ensures c.if-in_words.true).left)
+
+pub overflow_sub-y : goal.overflow_sub-y
+overflow_sub-y c = omega (arith, (c.in_words.ensures c.if-in_words.true).top)
+
+pub half_of_nine-black-requires : goal.half_of_nine-black-requires
+half_of_nine-black-requires c =
+    let inside = c.in_words.ensures c.if-in_words.true in
+    search (rules, last_row)
+
+pub returns-then-in_words : goal.returns-then-in_words
+returns-then-in_words c =
+    let inside = c.in_words.ensures c.if-in_words.true in
+    search area_in_words
+
+pub returns-then-x-shape : goal.returns-then-x-shape
+returns-then-x-shape c = area_outside _ _ _ (inl c.if-x-shape.true)
+
+pub returns-then-y-shape : goal.returns-then-y-shape
+returns-then-y-shape c = area_outside _ _ _ (inr c.if-y-shape.true)
