@@ -41,16 +41,11 @@ module _ (file : List ℕ) (w y : ℕ) (some : 1 ≤ w) where
   row_set : (rest ≡ 0 → ⊥) → file_row file w y ≡ true
   row_set ne = file_row_set file w y some λ e. ne (rest_is ∙ e)
 
--- the start of the function, from a turn of the loop
-abbrev start_of : In-loop-y → Start
-start_of turn = turn.before.before.before.before
-
 inside_at : (c : In-loop-y)
-    → let a = (start_of c).args in
+    → let a = c.args in
     last_byte a.shape.width c.loop-y.y < length a.file.now
 inside_at c =
-    let s = start_of c in
-    inside s.args.file.now s.args.shape.width s.args.shape.height c.loop-y.y s.requires.1 (omega arith) c.loop-y-test.true
+    inside c.args.file.now c.args.shape.width c.args.shape.height c.loop-y.y c.requires.1 (omega arith) c.loop-y-test.true
 
 pub loop-y-init : goal.loop-y-init
 loop-y-init c = passed_none _
@@ -65,21 +60,21 @@ pub overflow_add-y-in-loop-y : goal.overflow_add-y-in-loop-y
 overflow_add-y-in-loop-y c = omega (arith, inside_at c)
 
 pub bounds-file-y : goal.bounds-file-y
-bounds-file-y c = search (inside_at c.before)
+bounds-file-y c = search (inside c.args.file.now c.args.shape.width c.args.shape.height c.loop-y.y c.requires.1 (omega arith) c.loop-y-test.true)
 
 pub nonzero_rem-file : goal.nonzero_rem-file
 nonzero_rem-file c = unit_pos _ (omega arith)
 
 pub returns-then-file-y-ne0 : goal.returns-then-file-y-ne0
 returns-then-file-y-ne0 c =
-    let a = (start_of c).args in
+    let a = c.args in
     let y = c.loop-y.y in
     passed_found (file_row a.file.now a.shape.width) c.loop-y-test.true
     (row_set a.file.now a.shape.width y (omega arith) c.if-file-y-ne0.true)
 
 pub loop-y-preserved : goal.loop-y-preserved
 loop-y-preserved c =
-    let a = (start_of c).args in
+    let a = c.args in
     let y = c.loop-y.y in
     passed_more (file_row a.file.now a.shape.width) c.loop-y.invariant c.loop-y-test.true
     (row_clean a.file.now a.shape.width y (omega arith) c.if-file-y-ne0.false)

@@ -38,16 +38,11 @@ module _ (words : List ℕ) (row w y : ℕ) (rows : row ≡ row_words w) (some :
   row_set : (shifted row ≡ 0 → ⊥) → words_row words w y ≡ true
   row_set ne = words_row_set words w y some low λ e. ne (shifted_is ∙ e)
 
--- the start of the function, from a turn of the loop
-abbrev start_of : In-loop-y → Start
-start_of turn = turn.before.before.before.before
-
 inside_at : (c : In-loop-y)
-    → let a = (start_of c).args in
+    → let a = c.args in
     c.loop-y.y * a.shape.row_words + (a.shape.row_words - 1) < length a.words.now
 inside_at c =
-    let s = start_of c in
-    inside s.args.words.now s.args.shape c.loop-y.y s.requires.0 s.requires.1 c.loop-y-test.true
+    inside c.args.words.now c.args.shape c.loop-y.y c.requires.0 c.requires.1 c.loop-y-test.true
 
 pub loop-y-init : goal.loop-y-init
 loop-y-init c = passed_none _
@@ -62,21 +57,19 @@ pub offset_bounds-words-y : goal.offset_bounds-words-y
 offset_bounds-words-y c = omega (arith, inside_at c)
 
 pub bounds-words-y : goal.bounds-words-y
-bounds-words-y c = search (inside_at c.before)
+bounds-words-y c = search (inside c.args.words.now c.args.shape c.loop-y.y c.requires.0 c.requires.1 c.loop-y-test.true)
 
 pub returns-then-words-y-ne0 : goal.returns-then-words-y-ne0
 returns-then-words-y-ne0 c =
-    let s = start_of c in
     let y = c.loop-y.y in
-    passed_found (words_row s.args.words.now s.args.shape.width) c.loop-y-test.true
-    (row_set s.args.words.now _ s.args.shape.width y s.pre.0.rows (omega arith) (c.shared_slice_known-1.given _).fits c.if-words-y-ne0.true)
+    passed_found (words_row c.args.words.now c.args.shape.width) c.loop-y-test.true
+    (row_set c.args.words.now _ c.args.shape.width y c.requires.0.rows (omega arith) (c.shared_slice_known-1.given _).fits c.if-words-y-ne0.true)
 
 pub loop-y-preserved : goal.loop-y-preserved
 loop-y-preserved c =
-    let s = start_of c in
     let y = c.loop-y.y in
-    passed_more (words_row s.args.words.now s.args.shape.width) c.loop-y.invariant c.loop-y-test.true
-    (row_clean s.args.words.now _ s.args.shape.width y s.pre.0.rows (omega arith) (c.shared_slice_known-1.given _).fits c.if-words-y-ne0.false)
+    passed_more (words_row c.args.words.now c.args.shape.width) c.loop-y.invariant c.loop-y-test.true
+    (row_clean c.args.words.now _ c.args.shape.width y c.requires.0.rows (omega arith) (c.shared_slice_known-1.given _).fits c.if-words-y-ne0.false)
 
 pub returns : goal.returns
 returns c = passed_all _ c.loop-y.invariant c.loop-y-test.false

@@ -1,0 +1,9 @@
+-- `detector_variance::circle_area_variance` meets its contract.
+use Rattle.std.proofs.Common.{ap₂}
+use lib.Ieee.{binary32, add}
+use Rattle.detector_variance.specs.Variance.{area_variance}
+use Rattle.detector_variance.proofs.circle_area_variance.Goals as goal
+
+pub returns : goal.returns
+unfolding area_variance
+returns c = ap₂ (add binary32) c.abs_f32.ensures c.abs_f32-2.ensures

@@ -1,0 +1,14 @@
+-- `detector_variance::expected_area` meets its contract.
+use Rattle.std.proofs.Common.{◌/◌, ◌≤◌, ap, mul-le-mul, arith}
+use lib.Ieee.{Float, binary32, mul, of_bits}
+use Rattle.detector_variance.specs.Variance.{expected_area}
+use Rattle.detector_variance.proofs.expected_area.Goals as goal
+
+pub overflow_mul-n : goal.overflow_mul-n
+overflow_mul-n c =
+    let small : c.args.n / 2 ≤ 65535 = omega arith in
+    omega (arith, mul-le-mul small small)
+
+pub returns : goal.returns
+unfolding expected_area
+returns c = ap (λ (x : Float). mul binary32 x (of_bits binary32 0x4049_0fdb)) c.nearest_u32_to_f32.ensures

@@ -1,0 +1,12 @@
+-- `detector_walks::is_white` meets its contract, by its test and the run of the call.
+use Rattle.reads.specs.RunsLaws.{runs}
+use Rattle.detector_walks.specs.Walks.{white_pixel}
+use Rattle.detector_walks.proofs.is_white.Goals as goal
+
+pub returns-then-check_in_bounds : goal.returns-then-check_in_bounds
+unfolding white_pixel
+returns-then-check_in_bounds c = search runs depth 9
+
+pub returns : goal.returns
+unfolding white_pixel
+returns c = search runs depth 9

@@ -1,0 +1,28 @@
+-- `detector_walks::strides_back` meets its contract. The invariant is `Walking`: from the present column, what is left of the definition ends as the whole
+-- does. The measure is the column.
+use Prim.Native.Nat.{ℕ, ◌-◌, ◌≤◌, ◌<◌}
+use native.Mathlib.Omega.{arith}
+use borrow.Author.Rules.{rules}
+use Rattle.detector_walks.proofs.strides_back.Invariants.{begins, ends, enough, onward, stops}
+use Rattle.detector_walks.proofs.strides_back.Goals as goal
+
+fewer : {x k : ℕ} → 32 ≤ x → 32 ≤ k → x - k < x
+fewer room more = omega arith
+
+pub loop-x-init : goal.loop-x-init
+loop-x-init c = search (begins, rules)
+
+pub overflow_sub-x : goal.overflow_sub-x
+overflow_sub-x c = search (enough, rules)
+
+pub returns-then-taken-lt32 : goal.returns-then-taken-lt32
+returns-then-taken-lt32 c = search (stops, rules)
+
+pub loop-x-smaller : goal.loop-x-smaller
+loop-x-smaller c = search (fewer, rules)
+
+pub loop-x-preserved : goal.loop-x-preserved
+loop-x-preserved c = search (onward, rules)
+
+pub returns : goal.returns
+returns c = search (ends, rules)

@@ -1,0 +1,49 @@
+-- `detector_walks::walk_right` meets its contract: the first steps, and the strides that follow unless they have ended the walk.
+use Prim.Native.Nat.{ℕ, ◌+◌, ◌^◌, ◌≤◌, ◌<◌}
+use mathlib.Core.Bool.{false}
+use mathlib.Core.List.{List}
+use mathlib.Core.Path.{◌≡◌}
+use native.Mathlib.Omega.{arith}
+use borrow.Author.Rules.{rules}
+use Rattle.reads.specs.RunsClauses.{Ran, Resumes}
+use Rattle.reads.specs.RunsLaws.{resumes_start, resumes_end}
+use Rattle.bit_matrix.specs.declared.Shape.{Shape}
+use Rattle.bit_matrix.specs.ShapeClauses.{Limits, Inside}
+use Rattle.sines.specs.declared.Angle.{Angle}
+use Rattle.sines.specs.Laws.{scaled}
+use Rattle.rxing_result_point.specs.declared.PointU.{PointU}
+use Rattle.detector_walks.specs.Walks.{right_from, walk}
+use Rattle.detector_walks.specs.WalksClauses.{OfDegree, steps_remaining}
+use Rattle.detector_walks.specs.StepsLaws.{steps_right, steps_some}
+use Rattle.detector_walks.proofs.Joins.{kept_near, stopped, resumed}
+use Rattle.detector_walks.proofs.walk_right.Goals as goal
+
+module _ {words : List ℕ} {shape : Shape} {center : PointU} {angle : Angle} (limits : Limits shape) (inside : Inside shape center.x center.y)
+    (of : OfDegree angle) {marks after : List ℕ} {y : ℕ} (ran : Ran (right_from shape center angle 16 (center.x + 1)) words marks y after) where
+  begun : center.x + 1 ≤ center.x + steps_right shape angle
+  begun = omega (arith, steps_some shape (scaled angle.sin))
+
+  starts : Resumes words (right_from shape center angle (steps_remaining center (center.x + 1)) (center.x + 1)) marks (walk shape center angle false) marks
+  unfolding walk
+  starts =
+      let all : steps_remaining center (center.x + 1) ≡ 2 ^ 20 = omega arith in
+      rw all resumes_start
+
+  near : y ≤ center.x + steps_right shape angle
+  near = kept_near words shape center angle limits inside of 16 (center.x + 1) begun ran
+
+  ends_soon : y < center.x + 1 + 16 → Ran (walk shape center angle false) words marks y after
+  ends_soon less = stopped words shape center angle limits inside of 16 (center.x + 1) begun (omega arith) starts ran less
+
+  ends_later : {last : List ℕ} {r : ℕ} → center.x + 1 + 16 ≤ y → Ran (right_from shape center angle (steps_remaining center y) y) words after r last
+      → Ran (walk shape center angle false) words marks r last
+  ends_later more strides = resumes_end strides (resumed words shape center angle limits inside of 16 (center.x + 1) begun (omega arith) starts ran more)
+
+pub returns-then-x-first : goal.returns-then-x-first
+returns-then-x-first c = search ends_soon
+
+pub strides-requires : goal.strides-requires
+strides-requires c = search (near, rules)
+
+pub returns : goal.returns
+returns c = search ends_later
