@@ -1,5 +1,5 @@
 -- `detector_columns::try_column` meets its contract: the calls' runs, one after the other. The bound on the runs keeps the middle one in a u32.
--- Assumes nothing.
+--
 use Prim.Native.Nat.{ℕ, ◌+◌, ◌^◌, ◌≤◌, ◌<◌}
 use mathlib.Core.Path.{◌≡◌, ap}
 use mathlib.Core.Bool.{Bool, true, false}
@@ -14,8 +14,7 @@ use Rattle.detector_widths.specs.Widths.{at, valid_widths}
 use Rattle.detector_columns.specs.Columns.{column_vector, potential_bullseye_array, potential_bullseye, try_column_by}
 use Rattle.detector_columns.specs.ColumnsClauses.{try_column}
 use Rattle.detector_columns.specs.ColumnsLaws.{column_vector_le}
-use Rattle.detector_columns.proofs.try_column.Statement.{statement}
-use Rattle.detector_columns.proofs.try_column.Tie as tie
+use Rattle.detector_columns.proofs.try_column.Goals as goal
 
 module _ {words m m' vector : List ℕ} (shape : Shape) (row column : ℕ) (looking_up : Bool) where
   first_run : Ran (column_vector shape column row looking_up) words m vector m' → Limits shape → at vector 0 ≤ 2048
@@ -33,31 +32,8 @@ unfolding try_column_by potential_bullseye
 tried {buckets = buckets} shape row column above below same test =
     ran_bind _ (ran_bind _ above (ran_bind _ below (ran_is same))) (ran_is (ap (λ (b : Bool). record { good = b; buckets = buckets }) test))
 
-get-column-vector-requires : tie.Need-get-column-vector-requires
-get-column-vector-requires c κs = search rules
+pub build_potential_bullsey_array-potential_bullseye-requires : goal.build_potential_bullsey_array-potential_bullseye-requires
+build_potential_bullsey_array-potential_bullseye-requires c = search (sum_fits, first_run, rules)
 
-get-column-vector-requires-2 : tie.Need-get-column-vector-requires-2
-get-column-vector-requires-2 c κs = search rules
-
-build-potential-bullsey-array-requires : tie.Need-build-potential-bullsey-array-requires
-build-potential-bullsey-array-requires c κs = search (sum_fits, first_run, rules)
-
-validate-bullseye-widths-requires : tie.Need-validate-bullseye-widths-requires
-validate-bullseye-widths-requires c κs = search rules
-
-same_length : tie.Need-same-length
-same_length c = search rules
-
-returns : tie.Need-returns
+pub returns : goal.returns
 returns c = search tried
-
-pub try_column_spec : {M : Type 1} → statement M
-try_column_spec =
-    tie.close
-    (tie.spec
-    get-column-vector-requires
-    get-column-vector-requires-2
-    build-potential-bullsey-array-requires
-    validate-bullseye-widths-requires
-    same_length
-    returns)

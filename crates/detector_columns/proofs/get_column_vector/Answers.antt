@@ -1,5 +1,5 @@
 -- `detector_columns::get_column_vector` meets its contract. The invariant is `Looking`: from the present row, what is left of the definition ends as the
--- whole does, and a run has room for the rows left. The measure is the rows left. Assumes nothing.
+-- whole does, and a run has room for the rows left. The measure is the rows left.
 use Prim.Native.Nat.{ℕ, suc, ◌+◌, ◌-◌, ◌^◌, ◌≤◌, ◌<◌}
 use mathlib.Core.Path.{◌≡◌, refl}
 use mathlib.Core.Bool.{Bool, true, false, cond}
@@ -10,7 +10,7 @@ use borrow.Author.Tests.{ltb-true, ltb-false, lt-ltb, le-ltb}
 use lib.Dec.{ltb}
 use lib.ListN.{length, set, replicate, length-set}
 use Rattle.reads.specs.BitsLaws.{get_or_zeros}
-use Rattle.reads.specs.RunsClauses.{Ran, Resumes}
+use Rattle.reads.specs.RunsClauses.{Ran}
 use Rattle.reads.specs.RunsLaws.{ran_done, resumes_start, resumes_step, resumes_then, resumes_else, resumes_end}
 use Rattle.bit_matrix.specs.declared.Shape.{Shape}
 use Rattle.bit_matrix.specs.ShapeClauses.{Image}
@@ -20,11 +20,10 @@ use Rattle.detector_widths.specs.Widths.{at}
 use Rattle.detector_widths.specs.Buckets.{bump}
 use Rattle.detector_columns.specs.Columns.{pointer_after, row_after, rows_left, vector_from, column_vector}
 use Rattle.detector_columns.specs.ColumnsLaws.{bump_le, rows_le}
-use Rattle.detector_columns.proofs.get_column_vector.Statement.{statement}
-use Rattle.detector_columns.proofs.get_column_vector.Tie as tie
+use Rattle.detector_columns.proofs.get_column_vector.Invariants.{Looking}
+use Rattle.detector_columns.proofs.get_column_vector.Goals as goal
 
 -- ---- the rows left
-
 -- one less after a row that is looked at
 rows_next : (up : Bool) (height row : ℕ) → 0 < row → row < height → rows_left up height row ≡ suc (rows_left up height (row_after row up))
 unfolding rows_left
@@ -55,18 +54,6 @@ rows_top true height row h = both (ltb 0 row)
     both true = omega arith
     both false = refl
 rows_top false height row h = rw (le-ltb _ _ h)
-
--- ---- the invariant, and a turn and the ends of the walk against the definition
-
-record Looking (words marks₀ : List ℕ) (shape : Shape) (column start : ℕ) (up : Bool)
-    (marks buckets : List ℕ) (row : ℕ) (last : Bool) (pointer : ℕ) : Type 0 where
-  image : Image shape words marks
-  six : length buckets ≡ 6
-  within : pointer ≤ 5
-  room : (k : ℕ) → at buckets k + rows_left up shape.height row ≤ shape.height
-  resumes : Resumes words
-      (vector_from shape column up (rows_left up shape.height row) row last pointer buckets) marks
-      (column_vector shape column start up) marks₀
 
 begins : {words marks : List ℕ} {shape : Shape} {column start : ℕ} {up : Bool} → Image shape words marks
     → Looking words marks shape column start up marks (replicate 6 0) start false 0
@@ -113,80 +100,26 @@ module _ {words marks₀ marks buckets : List ℕ} {shape : Shape} {column start
           resumes_end (ran_done buckets)
           (resumes_then _ _ (rw chosen at (lt-ltb _ _ past)) (resumes_step _ ran (rw (rows_next up shape.height row above below) at looking.resumes)))
 
-abbrev invariant-loop : tie.invariant-loop
-invariant-loop words marks₀ shape column start up buckets₀ row₀ last₀ pointer₀ marks buckets row last pointer =
-    Looking words marks₀ shape column start up marks buckets row last pointer
+pub loop-row-init : goal.loop-row-init
+loop-row-init c = search begins
 
-abbrev decreases-loop : tie.decreases-loop
-decreases-loop words marks₀ shape column start up buckets₀ row₀ last₀ pointer₀ marks buckets row last pointer = rows_left up shape.height row
+pub overflow_add-buckets : goal.overflow_add-buckets
+overflow_add-buckets c = record { fits = search (one_more, ltb-true, rules) }
 
-loop-holds : tie.Need-loop-init invariant-loop decreases-loop
-loop-holds c = search begins
+pub next_row-row-requires : goal.next_row-row-requires
+next_row-row-requires c = omega (arith, ltb-true)
 
-get-requires : tie.Need-get-requires invariant-loop decreases-loop
-get-requires c κs = search rules
+pub loop-row-smaller : goal.loop-row-smaller
+loop-row-smaller c = search (fewer, ltb-true)
 
-next-pointer-requires : tie.Need-next-pointer-requires invariant-loop decreases-loop
-next-pointer-requires c κs = search rules
+pub loop-row-preserved : goal.loop-row-preserved
+loop-row-preserved c = search (onward, ltb-true)
 
-mul-buckets : tie.Need-overflow-mul-buckets invariant-loop decreases-loop
-mul-buckets c = search rules
+pub returns-else-row-shape : goal.returns-else-row-shape
+returns-else-row-shape c = search (no_row, rows_top, ltb-false)
 
-array-read-buckets : tie.Need-array-read-buckets invariant-loop decreases-loop
-array-read-buckets c = search rules
+pub returns-after-loop-row : goal.returns-after-loop-row
+returns-after-loop-row c = search (no_row, rows_bottom)
 
-add-buckets : tie.Need-overflow-add-buckets invariant-loop decreases-loop
-add-buckets c = record { fits = search (one_more, ltb-true, rules) }
-
-array-write-buckets : tie.Need-array-write-buckets invariant-loop decreases-loop
-array-write-buckets c = search rules
-
-next-row-requires : tie.Need-next-row-requires invariant-loop decreases-loop
-next-row-requires c κs = omega (arith, ltb-true)
-
-loop-less : tie.Need-loop-smaller invariant-loop decreases-loop
-loop-less c = search (fewer, ltb-true)
-
-loop-again : tie.Need-loop-preserved invariant-loop decreases-loop
-loop-again c = search (onward, ltb-true)
-
-same_length : tie.Need-same-length invariant-loop decreases-loop
-same_length c = search rules
-
-returns : tie.Need-returns invariant-loop decreases-loop
-returns c = search (no_row, rows_top, ltb-false)
-
-same-length-2 : tie.Need-same-length-2 invariant-loop decreases-loop
-same-length-2 c = search rules
-
-returns-2 : tie.Need-returns-2 invariant-loop decreases-loop
-returns-2 c = search (no_row, rows_bottom)
-
-same-length-3 : tie.Need-same-length-3 invariant-loop decreases-loop
-same-length-3 c = search rules
-
-returns-3 : tie.Need-returns-3 invariant-loop decreases-loop
-returns-3 c = search (seventh, ltb-true)
-
-pub get_column_vector_spec : {M : Type 1} → statement M
-get_column_vector_spec =
-    tie.close
-    (tie.spec
-    invariant-loop
-    decreases-loop
-    loop-holds
-    get-requires
-    next-pointer-requires
-    mul-buckets
-    array-read-buckets
-    add-buckets
-    array-write-buckets
-    next-row-requires
-    loop-less
-    loop-again
-    same_length
-    returns
-    same-length-2
-    returns-2
-    same-length-3
-    returns-3)
+pub returns-then-pointer-gt5 : goal.returns-then-pointer-gt5
+returns-then-pointer-gt5 c = search (seventh, ltb-true)
