@@ -1,0 +1,86 @@
+-- `bit_matrix_rectangle::column_word` meets its contract. The invariant: a bit tells whether its column has a black pixel in a row so far.
+use Prim.Native.Nat.{ℕ, ◌+◌, ◌*◌, ◌≤◌, ◌<◌}
+use native.Mathlib.Numerals.{add-one}
+use native.Mathlib.Omega.{arith}
+use mathlib.Core.Bool.{Bool, true, false, cond, ◌||◌}
+use mathlib.Core.List.{List}
+use mathlib.Core.Path.{◌≡◌, refl, sym, ap₂, ◌∙◌}
+use lib.Arith.{digits_lt}
+use lib.Bits.{bit_or}
+use lib.ListN.{length, get_or}
+use Rattle.reads.specs.Bits.{test_bit}
+use Rattle.reads.specs.BitsLaws.{test_or, test_zero}
+use Rattle.bit_matrix.specs.declared.Shape.{Shape}
+use Rattle.crop_padding.specs.Below.{any_below}
+use Rattle.crop_padding.specs.AnyLaws.{any_until, none_below}
+use Rattle.bit_matrix_rectangle.specs.Rectangle.{black_at}
+use Rattle.bit_matrix_rectangle.specs.RectangleClauses.{ImageAccepted, Rows, ColumnWord}
+use Rattle.bit_matrix_rectangle.proofs.Words.{black_word}
+use Rattle.bit_matrix_rectangle.proofs.column_word.Invariants.{Joined}
+use Rattle.bit_matrix_rectangle.proofs.column_word.Goals.{In-loop-y, Start}
+use Rattle.bit_matrix_rectangle.proofs.column_word.Goals as goal
+
+-- the definition takes the last row first
+or_last_first : (b c : Bool) → (b || c) ≡ cond c true b
+or_last_first true true = refl
+or_last_first true false = refl
+or_last_first false true = refl
+or_last_first false false = refl
+
+module _ (shape : Shape) (words : List ℕ) (x : ℕ) (ok : ImageAccepted shape words) (column : x < shape.row_words) where
+  inside : (y : ℕ) → y < shape.height → y * shape.row_words + x < length words
+  inside y row = rw ok.stored (omega (arith, digits_lt {r = x} {c = shape.row_words} row column))
+
+  module _ {top bottom : ℕ} (rows : Rows shape words top bottom) where
+    begins : Joined shape words x bottom 0 top
+    begins = record {
+      most = omega (arith, rows.order);
+      bits = λ k h. test_zero k ∙ sym (none_below (λ y. black_at shape words (x * 64 + k) y) top λ y above. rows.above (x * 64 + k) y (omega arith) above);
+    }
+
+    at_end : {word y : ℕ} → Joined shape words x bottom word y → bottom < y → ColumnWord shape words x word
+    at_end {y = y} joined past =
+        let last : y ≡ bottom + 1 = omega (arith, joined.most) in
+        record {
+          bits = λ k h.
+              joined.bits k h
+              ∙ any_until (λ j. black_at shape words (x * 64 + k) j) y shape.height (omega (arith, rows.most)) λ j below row.
+              rows.below (x * 64 + k) j (omega arith) (omega arith) row;
+        }
+
+  onward : {bottom word : ℕ} (y : ℕ) → Joined shape words x bottom word y → y ≤ bottom
+      → Joined shape words x bottom (bit_or word (get_or words (y * shape.row_words + x) 0)) (y + 1)
+  unfolding any_below
+  onward {word = word} y joined row = record {
+    most = omega arith;
+    bits = λ k h.
+        let v : ℕ = get_or words (y * shape.row_words + x) 0 in
+        rw add-one
+        (test_or word v k ∙ or_last_first (test_bit word k) (test_bit v k) ∙ ap₂ (λ (b c : Bool). cond b true c) (sym (black_word ok x k y h)) (joined.bits k h));
+  }
+
+inside_at : (c : In-loop-y)
+    → c.loop-y.y * c.args.shape.row_words + c.args.x < length c.args.words.now
+inside_at c =
+    inside c.args.shape c.args.words.now c.args.x c.requires.0 c.requires.2 c.loop-y.y (omega (arith, c.requires.1.most))
+
+pub loop-y-init : goal.loop-y-init
+loop-y-init c = search begins
+
+pub overflow_mul-word : goal.overflow_mul-word
+overflow_mul-word c = omega (arith, inside c.args.shape c.args.words.now c.args.x c.requires.0 c.requires.2 c.loop-y.y (omega (arith, c.requires.1.most)))
+
+pub overflow_add-word : goal.overflow_add-word
+overflow_add-word c = omega (arith, inside c.args.shape c.args.words.now c.args.x c.requires.0 c.requires.2 c.loop-y.y (omega (arith, c.requires.1.most)))
+
+pub offset_bounds-words-y : goal.offset_bounds-words-y
+offset_bounds-words-y c = omega (arith, inside c.args.shape c.args.words.now c.args.x c.requires.0 c.requires.2 c.loop-y.y (omega (arith, c.requires.1.most)))
+
+pub bounds-words-y : goal.bounds-words-y
+bounds-words-y c = search (inside c.args.shape c.args.words.now c.args.x c.requires.0 c.requires.2 c.loop-y.y (omega (arith, c.requires.1.most)))
+
+pub loop-y-preserved : goal.loop-y-preserved
+loop-y-preserved c = search onward
+
+pub returns : goal.returns
+returns c = search at_end

@@ -1,0 +1,25 @@
+-- `detector_colours::look` meets its contract: the area's run, at the turned point's pixel.
+use Prim.Native.Nat.{ℕ}
+use mathlib.Core.List.{List}
+use mathlib.Core.Path.{◌≡◌}
+use lib.Ieee.{binary32, add, sub, mul, to_unsigned}
+use Rattle.ieee.specs.Sign.{abs}
+use Rattle.reads.specs.RunsClauses.{Ran}
+use Rattle.bit_matrix.specs.declared.Shape.{Shape}
+use Rattle.bit_matrix.specs.declared.Sample.{Sample}
+use Rattle.bit_matrix_area.specs.Area.{try_get_area}
+use Rattle.sines.specs.declared.Angle.{Angle}
+use Rattle.rxing_result_point.specs.declared.Point.{Point}
+use Rattle.detector_colours.specs.Looks.{look_past}
+use Rattle.detector_colours.proofs.look.Goals as goal
+
+looked : {words marks after : List ℕ} {sample : Sample} (shape : Shape) (x y : ℕ) (center : Point) (angle : Angle) (offset : Point)
+    → x ≡ to_unsigned 32 (abs (add binary32 (sub binary32 (mul binary32 angle.cos offset.x) (mul binary32 angle.sin offset.y)) center.x))
+    → y ≡ to_unsigned 32 (abs (add binary32 (add binary32 (mul binary32 angle.sin offset.x) (mul binary32 angle.cos offset.y)) center.y))
+    → Ran (try_get_area shape x y) words marks sample after
+    → Ran (look_past shape center angle offset) words marks sample after
+unfolding look_past
+looked shape x y center angle offset e f ran = rw (e, f) at ran
+
+pub returns : goal.returns
+returns c = search looked

@@ -1,0 +1,52 @@
+-- `detector_ellipse::widths_about` meets its contract. The invariant is `Walking`: the widths walked stand in their places, and what is left of the definition
+-- ends as the whole does. The measure is the walks left.
+use Rattle.std.proofs.Common.{◌≡◌, ℕ, suc, ◌+◌, ◌-◌, ◌*◌, ◌<◌, ◌≤◌, List, [], ◌∷◌, ◌++◌, length, take, set, ap, ◌∙◌, add-one, arith, length-set, take_all, take-suc-set, rules}
+use lib.Ieee.{Float}
+use Rattle.reads.specs.RunsClauses.{Ran}
+use Rattle.reads.specs.RunsLaws.{ran_done, resumes_start, resumes_step, resumes_end}
+use Rattle.bit_matrix.specs.declared.Shape.{Shape}
+use Rattle.rxing_result_point.specs.declared.PointU.{PointU}
+use Rattle.detector_walks.specs.declared.Width.{Width}
+use Rattle.detector_walks.specs.Walks.{find_width_at_degree}
+use Rattle.detector_walks.specs.WalksClauses.{Lent}
+use Rattle.detector_walks.specs.WalksLaws.{lent_on}
+use Rattle.detector_ellipse.specs.Ellipse.{widths_from, widths_about}
+use Rattle.detector_ellipse.proofs.widths_about.Invariants.{Walking}
+use Rattle.detector_ellipse.proofs.widths_about.Goals as goal
+
+begins : {words marks : List ℕ} {shape : Shape} {center : PointU} {table : List Float} (widths : List Width) → length widths ≡ 72
+    → Lent shape words marks center table → Walking words marks shape center table marks widths 0
+unfolding widths_about
+begins widths all lent = record { few = omega arith; all = all; lent = lent; resumes = resumes_start }
+
+module _ {words marks₀ marks : List ℕ} {shape : Shape} {center : PointU} {table : List Float} {widths : List Width} {i : ℕ}
+    (walking : Walking words marks₀ shape center table marks widths i) where
+  onward : {w : Width} {marks' : List ℕ} → i < 72 → Ran (find_width_at_degree shape center (5 * i)) words marks w marks' → length marks' ≡ length marks
+      → Walking words marks₀ shape center table marks' (set widths i w) (i + 1)
+  unfolding widths_from
+  onward {w} h ran kept =
+      let one : 72 - i ≡ suc (72 - (i + 1)) = omega arith in
+      let front : take (i + 1) (set widths i w) ≡ take i widths ++ w ∷ [] =
+      ap (λ (k : ℕ). take k (set widths i w)) (add-one i) ∙ take-suc-set widths i w (omega (arith, walking.all)) in
+      record {
+        few = omega arith;
+        all = length-set widths i w ∙ walking.all;
+        lent = lent_on walking.lent kept;
+        resumes = rw front (resumes_step _ ran (rw one at walking.resumes));
+      }
+
+  over : 72 ≤ i → Ran (widths_about shape center) words marks₀ widths marks
+  unfolding widths_from
+  over h =
+      let none : 72 - i ≡ 0 = omega (arith, walking.few) in
+      let whole : take i widths ≡ widths = take_all i widths (omega (arith, walking.all)) in
+      resumes_end (ran_done widths) (rw (none, whole) at walking.resumes)
+
+pub loop-i-init : goal.loop-i-init
+loop-i-init c = search (begins, rules)
+
+pub loop-i-preserved : goal.loop-i-preserved
+loop-i-preserved c = search (onward, rules)
+
+pub returns : goal.returns
+returns c = search over
