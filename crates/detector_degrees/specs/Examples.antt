@@ -1,7 +1,7 @@
 -- Degrees tested on an image with one black square of 3 by 3, by computation. Assumes nothing.
-use Rattle.std.specs.Prelude.{◌≡◌, ℕ, List, [], ◌∷◌, from_bits, refl}
+use Rattle.std.specs.Prelude.{◌≡◌, ℕ, List, [], ◌∷◌, refl}
 use mathlib.Core.List.{flat_map}
-use Rattle.std.specs.Float.Ieee.{of_int, add, sub, mul, to_unsigned}
+use Rattle.std.specs.Float.Ieee.{of_bits, of_int, add, sub, mul, to_unsigned}
 use Rattle.reads.specs.Reads.{◌>>=◌, value}
 use Rattle.reads.specs.Bits.{test_bit, bit_at, range}
 use Rattle.reads.specs.Runs.{value_of}
@@ -48,7 +48,7 @@ test_at groups = value_of (test_degree (look_at (shape_of 33 33) center groups (
 pub near_test : (test_at (groups_of black white) ≡ Found) × (test_at (groups_of white black) ≡ WrongColour)
     × (test_at (groups_of black outside) ≡ Outside) × (test_at (groups_of white outside) ≡ WrongColour)
 unfolding value_of value ◌>>=◌ test_bit bit_at range flat_map pixel try_get count_black try_get_area
-    from_bits of_int add sub mul to_unsigned turned abs sines sine_of point_of right_colour look_at points_from test_degree
+    of_bits of_int add sub mul to_unsigned turned abs sines sine_of point_of right_colour look_at points_from test_degree
 near_test = (refl, refl, refl, refl)
 
 abbrev try_all : List (List PointU) → Rotation
@@ -57,5 +57,5 @@ try_all groups = value_of (try_degrees (shape_of 33 33) center groups) words
 -- a point that lies in the square when it is turned by 12 degrees, and at no degree before; a point outside at degree 0
 pub near_turn : (try_all (groups_of (record { x = 8; y = 12 }) white) ≡ rotation.Found 12) × (try_all (groups_of outside white) ≡ rotation.None)
 unfolding value_of value ◌>>=◌ test_bit bit_at range flat_map pixel try_get count_black try_get_area
-    from_bits of_int add sub mul to_unsigned turned abs sines sine_of point_of right_colour look_at points_from test_degree degrees_from try_degrees
+    of_bits of_int add sub mul to_unsigned turned abs sines sine_of point_of right_colour look_at points_from test_degree degrees_from try_degrees
 near_turn = (refl, refl)

@@ -1,0 +1,97 @@
+-- `detector_cells::read_row` meets its contract. The invariant: the cells before x are read.
+use Prim.Native.Nat.{ℕ, ◌+◌, ◌*◌, ◌-◌, ◌/◌, ◌%◌, ◌^◌, ◌≤◌, ◌<◌, min}
+use native.Mathlib.Nat.{mul-le-mul}
+use native.Mathlib.Numerals.{add-one}
+use native.Mathlib.Omega.{arith}
+use mathlib.Core.Bool.{Bool}
+use mathlib.Core.List.{List}
+use mathlib.Core.Path.{◌≡◌, refl, ap, ap₂, ◌∙◌}
+use lib.Bits.{bit_or, or_shifted_r}
+use lib.Pow.{shl_exact}
+use Rattle.reads.specs.Bits.{digit}
+use Rattle.reads.specs.BitsLaws.{digit_low}
+use Rattle.bit_matrix.specs.declared.Shape.{Shape}
+use Rattle.bit_matrix.specs.ShapeClauses.{Limits, Inside}
+use Rattle.crop_padding.specs.Below.{number}
+use Rattle.crop_padding.specs.NumberLaws.{number_lt}
+use Rattle.detector_points.specs.Orientation.{pixel_row}
+use Rattle.bit_matrix_rectangle.specs.declared.Rectangle.{Rectangle}
+use Rattle.bit_matrix_rectangle.specs.Rectangle.{black_at}
+use Rattle.bit_matrix_rectangle.specs.RectangleClauses.{Within}
+use Rattle.detector_cells.specs.Cells.{cell}
+use Rattle.detector_cells.specs.CellsLaws.{cell_inside}
+use Rattle.detector_cells.proofs.read_row.Goals as goal
+
+-- one bit more
+more : (p : ℕ → Bool) (x : ℕ) {cells : ℕ} {b : Bool} → x < 30 → cells ≡ number p x → b ≡ p x → bit_or cells (digit b * 2 ^ x % 2 ^ 32) ≡ number p (x + 1)
+unfolding number
+more p x {cells} {b} h so_far is =
+    let low : cells < 2 ^ x = rw so_far (number_lt p x) in
+    let small : digit b < 2 ^ 1 = omega (arith, digit_low b) in
+    rw add-one
+    (ap (bit_or cells) (shl_exact {a = digit b} 1 x 32 small (omega arith)) ∙ or_shifted_r (digit b) x cells low
+    ∙ ap₂ (λ (c : Bool) (n : ℕ). digit c * 2 ^ x + n) is so_far)
+
+-- the products are small
+module _ {shape : Shape} (limits : Limits shape) (r : Rectangle) (within : Within shape.width shape.height r) where
+  rows_small : {y : ℕ} → y < 33 → y * r.height ≤ 32 * 2048
+  rows_small {y} h = mul-le-mul {n₁ = y} {m₁ = r.height} {n₂ = 32} {m₂ = 2048} (omega arith) (omega (arith, within.rows, limits.height_most))
+
+  columns_small : {x : ℕ} → x < 30 → x * r.width ≤ 29 * 2048
+  columns_small {x} h = mul-le-mul {n₁ = x} {m₁ = r.width} {n₂ = 29} {m₂ = 2048} (omega arith) (omega (arith, within.columns, limits.width_most))
+
+  half_small : (y : ℕ) → y % 2 * r.width ≤ 1 * 2048
+  half_small y = mul-le-mul {n₁ = y % 2} {m₁ = r.width} {n₂ = 1} {m₂ = 2048} (omega arith) (omega (arith, within.columns, limits.width_most))
+
+  -- where cell x of row y lies, as it was worked out
+  module _ (x y : ℕ) {l iy : ℕ} (column : l ≡ min ((x * r.width + r.width / 2 + y % 2 * r.width / 2) / 30) (r.width - 1))
+      (row : iy ≡ pixel_row y r.top r.height) where
+    cell_at : Inside shape (r.left + l) iy
+    cell_at =
+        let inside = cell_inside r within x y in
+        record { column = rw column inside.0; row = rw row inside.1 }
+
+    cell_is : (words : List ℕ) {b : Bool} → b ≡ black_at shape words (r.left + l) iy → b ≡ cell (black_at shape words) r x y
+    cell_is words e = e ∙ ap₂ (λ (i j : ℕ). black_at shape words (r.left + i) j) column row
+
+pub overflow_mul-y : goal.overflow_mul-y
+overflow_mul-y c = omega (arith, rows_small c.requires.0 c.args.rectangle c.requires.2 c.requires.3)
+
+pub overflow_add-y : goal.overflow_add-y
+overflow_add-y c = omega (arith, rows_small c.requires.0 c.args.rectangle c.requires.2 c.requires.3)
+
+pub overflow_add-rectangle : goal.overflow_add-rectangle
+overflow_add-rectangle c = omega (arith, rows_small c.requires.0 c.args.rectangle c.requires.2 c.requires.3, c.requires.2, c.requires.0)
+
+pub overflow_mul-half : goal.overflow_mul-half
+overflow_mul-half c = omega (arith, half_small c.requires.0 c.args.rectangle c.requires.2 c.args.y)
+
+pub loop-x-init : goal.loop-x-init
+unfolding number
+loop-x-init c = (omega arith, refl)
+
+pub overflow_mul-x : goal.overflow_mul-x
+overflow_mul-x c = omega (arith, columns_small c.requires.0 c.args.rectangle c.requires.2 c.loop-x-test.true)
+
+pub overflow_add-x : goal.overflow_add-x
+overflow_add-x c = omega (arith, columns_small c.requires.0 c.args.rectangle c.requires.2 c.loop-x-test.true)
+
+pub overflow_add-x-in-loop-x : goal.overflow_add-x-in-loop-x
+overflow_add-x-in-loop-x c = omega (arith, columns_small c.requires.0 c.args.rectangle c.requires.2 c.loop-x-test.true, half_small c.requires.0 c.args.rectangle c.requires.2 c.args.y)
+
+pub get-requires : goal.get-requires
+get-requires c = search cell_at
+
+pub loop-x-preserved : goal.loop-x-preserved
+loop-x-preserved c =
+    let x = c.loop-x.x in
+    let is = cell_is c.requires.0 c.args.rectangle c.requires.2 x c.args.y c.least.ensures c.least-iy.ensures
+    c.args.words.now c.get.ensures in
+    let cells : ℕ → Bool = λ i. cell (black_at c.args.shape c.args.words.now) c.args.rectangle i c.args.y in
+    (omega arith, more cells x (omega arith) c.loop-x.invariant.1 is)
+
+pub returns : goal.returns
+returns c =
+    let a = c.args in
+    let all : c.loop-x.x ≡ 30 = omega arith in
+    c.loop-x.invariant.1 ∙ ap (number λ i. cell (black_at a.shape a.words.now) a.rectangle i a.y) all

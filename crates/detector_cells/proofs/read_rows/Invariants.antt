@@ -1,0 +1,21 @@
+-- `detector_cells::read_rows` meets its contract. The invariant: the words before y are stored, and the rest is as it was.
+use Prim.Native.Nat.{ℕ, ◌-◌, ◌≤◌}
+use mathlib.Core.List.{List, ◌++◌}
+use mathlib.Core.Path.{◌≡◌}
+use lib.ListN.{length, drop}
+use Rattle.crop_padding.specs.Below.{firsts}
+use Rattle.bit_matrix_rectangle.specs.Rectangle.{black_at}
+use Rattle.detector_cells.specs.Cells.{cell_word}
+use Rattle.detector_cells.proofs.read_rows.Given as goal
+
+-- the words before y are stored
+pub record Storing (f : ℕ → ℕ) (cells₀ cells : List ℕ) (y : ℕ) : Type 0 where
+  pub most : y ≤ 33
+  pub stored : cells ≡ firsts f y ++ drop y cells₀
+  pub sized : length cells ≡ length cells₀
+
+abbrev pub invariant-loop-y : goal.invariant-loop-y
+invariant-loop-y l = Storing (cell_word (black_at l.shape l.words) l.rectangle) l.initial.cells l.cells l.y
+
+abbrev pub decreases-loop-y : goal.decreases-loop-y
+decreases-loop-y l = 33 - l.y
