@@ -1,4 +1,4 @@
--- `detector_candidate::search_from` meets its contract. That a window's centre and radius fit is a fact of the definition of the row search. Assumes nothing.
+-- `detector_candidate::search_from` meets its contract. That a window's centre and radius fit is a fact of the definition of the row search.
 use Prim.Native.Nat.{ℕ, ◌+◌, ◌^◌, ◌≤◌, ◌<◌}
 use native.Mathlib.Omega.{arith}
 use mathlib.Core.Path.{◌≡◌}
@@ -20,8 +20,7 @@ use Rattle.detector_columns.specs.declared.Verified.{Verified}
 use Rattle.detector_candidate.specs.Candidate.{nothing, passed, failed, search_by}
 use Rattle.detector_candidate.specs.CandidateClauses.{Searchable, search_from}
 use Rattle.detector_candidate.specs.declared.Searched.{Searched}
-use Rattle.detector_candidate.proofs.search_from.Statement.{statement}
-use Rattle.detector_candidate.proofs.search_from.Tie as tie
+use Rattle.detector_candidate.proofs.search_from.Goals as goal
 
 module _ {words marks m₁ : List ℕ} (shape : Shape) (row column : ℕ) {eye : Bullseye}
     (ran : Ran (next_bullseye shape row column) words marks eye m₁) where
@@ -58,51 +57,20 @@ module _ {words marks m₁ : List ℕ} (shape : Shape) (row column : ℕ) {eye :
     unfolding search_by
     fails bad made = ran_bind _ ran (ran_then _ _ found (ran_bind _ look (ran_else _ _ bad (ran_is made))))
 
-find-next-bullseye-horizontal-requires : tie.Need-find-next-bullseye-horizontal-requires
-find-next-bullseye-horizontal-requires c κs = search rules
+pub returns-then-not-eye : goal.returns-then-not-eye
+returns-then-not-eye c = search (ends, not-true)
 
-nothing-found-requires : tie.Need-nothing-found-requires
-nothing-found-requires c κs = search rules
+pub verify_bullseye_vertical-seen-requires : goal.verify_bullseye_vertical-seen-requires
+verify_bullseye_vertical-seen-requires c = search (positive, next_fits, not-false, rules)
 
-same_length : tie.Need-same-length
-same_length c = search rules
+pub bullseye_passed-requires : goal.bullseye_passed-requires
+bullseye_passed-requires c = search (closing_fits, not-false)
 
-returns : tie.Need-returns
-returns c = search (ends, not-true)
+pub returns-then-seen : goal.returns-then-seen
+returns-then-seen c = search (passes, not-false)
 
-verify-bullseye-vertical-requires : tie.Need-verify-bullseye-vertical-requires
-verify-bullseye-vertical-requires c κs = search (positive, next_fits, not-false, rules)
+pub bullseye_failed-requires : goal.bullseye_failed-requires
+bullseye_failed-requires c = search (radius_left, not-false)
 
-bullseye-passed-requires : tie.Need-bullseye-passed-requires
-bullseye-passed-requires c κs = search (closing_fits, not-false)
-
-same-length-2 : tie.Need-same-length-2
-same-length-2 c = search rules
-
-returns-2 : tie.Need-returns-2
-returns-2 c = search (passes, not-false)
-
-bullseye-failed-requires : tie.Need-bullseye-failed-requires
-bullseye-failed-requires c κs = search (radius_left, not-false)
-
-same-length-3 : tie.Need-same-length-3
-same-length-3 c = search rules
-
-returns-3 : tie.Need-returns-3
-returns-3 c = search (fails, not-false)
-
-pub search_from_spec : {M : Type 1} → statement M
-search_from_spec =
-    tie.close
-    (tie.spec
-    find-next-bullseye-horizontal-requires
-    nothing-found-requires
-    same_length
-    returns
-    verify-bullseye-vertical-requires
-    bullseye-passed-requires
-    same-length-2
-    returns-2
-    bullseye-failed-requires
-    same-length-3
-    returns-3)
+pub returns : goal.returns
+returns c = search (fails, not-false)

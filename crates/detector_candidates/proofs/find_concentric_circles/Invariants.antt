@@ -1,11 +1,10 @@
 -- `detector_candidates::find_concentric_circles` meets its contract. The invariant is `Sweeping`: with some fuel, what is left of the sweep ends as the whole
--- does, and only the candidates so far were written. The measure is the rows left. Assumes nothing.
+-- does, and only the candidates so far were written. The measure is the rows left.
 use Prim.Native.Nat.{ℕ, zero, suc, ◌+◌, ◌-◌, ◌*◌, ◌≤◌, ◌<◌}
 use mathlib.Core.Path.{◌≡◌, refl, sym, ◌∙◌}
 use mathlib.Core.Bool.{cond, ◌||◌}
 use mathlib.Core.List.{List}
 use native.Mathlib.Omega.{arith}
-use borrow.Author.Rules.{rules}
 use borrow.Author.Tests.{lt-ltb, le-ltb}
 use lib.Dec.{ltb}
 use lib.ListN.{length, drop}
@@ -13,7 +12,7 @@ use Rattle.reads.specs.Reads.{Reads, done}
 use Rattle.reads.specs.ReadsLaws.{Always, always_done, always_after, always_cond}
 use Rattle.reads.specs.Runs.{value_of}
 use Rattle.reads.specs.RunsClauses.{Ran, Resumes}
-use Rattle.reads.specs.RunsLaws.{ran_done, always_ran, resumes_start, resumes_step, resumes_then, resumes_else, resumes_end}
+use Rattle.reads.specs.RunsLaws.{ran_done, always_ran, resumes_step, resumes_then, resumes_else, resumes_end}
 use Rattle.records.specs.Records.{Record, rows}
 use Rattle.records.specs.RecordsLaws.{length_rows}
 use Rattle.bit_matrix.specs.declared.Shape.{Shape}
@@ -21,13 +20,12 @@ use Rattle.bit_matrix.specs.ShapeClauses.{Image}
 use Rattle.bit_matrix.specs.ShapeLaws.{image_kept}
 use Rattle.detector_candidate.specs.CandidateClauses.{search_from}
 use Rattle.detector_candidates.specs.CandidatesClauses.{row_from, rows_from, Room, Listed}
-use Rattle.detector_candidates.specs.Candidates.{after, row_by, rows_by, concentric_circles_by, concentric_circles}
+use Rattle.detector_candidates.specs.Candidates.{after, row_by, rows_by, concentric_circles}
 use Rattle.detector_candidates.proofs.Storing.{after_more, stored_all, stored_rows, stored_rest, stored_since}
-use Rattle.detector_candidates.proofs.find_concentric_circles.Statement.{statement}
-use Rattle.detector_candidates.proofs.find_concentric_circles.Tie as tie
+use Rattle.detector_candidates.proofs.find_concentric_circles.Given as goal
 
 -- a row only adds candidates
-row_more : (shape : Shape) (capacity n row column : ℕ) (circles : List Record)
+pub row_more : (shape : Shape) (capacity n row column : ℕ) (circles : List Record)
     → Always (λ (now : List Record). length circles ≤ length now) (row_from shape capacity n row column circles)
 unfolding row_by
 row_more shape capacity zero row column circles = always_done (omega arith)
@@ -37,37 +35,24 @@ row_more shape capacity (suc n) row column circles =
     (λ _. always_done (after_more circles s))
     (λ _. record { on = λ image. omega (arith, after_more circles s, (row_more shape capacity n row s.column (after circles s)).on image) })
 
-record Sweeping (words marks₀ records₀ : List ℕ) (shape : Shape) (capacity : ℕ) (marks records : List ℕ) (found row : ℕ) : Type 0 where
-  fuel : ℕ
-  image : Image shape words marks
-  room : Room capacity records found
-  same : length records ≡ length records₀
-  fueled : shape.height - row ≤ fuel
-  rest : drop (40 * found) records ≡ drop (40 * found) records₀
-  resumes : Resumes words
+pub record Sweeping (words marks₀ records₀ : List ℕ) (shape : Shape) (capacity : ℕ) (marks records : List ℕ) (found row : ℕ) : Type 0 where
+  pub fuel : ℕ
+  pub image : Image shape words marks
+  pub room : Room capacity records found
+  pub same : length records ≡ length records₀
+  pub fueled : shape.height - row ≤ fuel
+  pub rest : drop (40 * found) records ≡ drop (40 * found) records₀
+  pub resumes : Resumes words
       (rows_from shape capacity fuel row (rows found records)) marks
       (concentric_circles shape capacity) marks₀
 
-begins : {words marks records : List ℕ} {shape : Shape} {capacity : ℕ} → Image shape words marks → Room capacity records 0
-    → Sweeping words marks records shape capacity marks records 0 6
-unfolding concentric_circles_by rows
-begins {shape = shape} image room = record {
-  fuel = shape.height;
-  image = image;
-  room = room;
-  same = refl;
-  fueled = omega arith;
-  rest = refl;
-  resumes = resumes_start;
-}
-
 module _ {words marks₀ records₀ marks records : List ℕ} {shape : Shape} {capacity found row : ℕ}
     (so_far : Sweeping words marks₀ records₀ shape capacity marks records found row) where
-  abbrev whole : Reads (List Record)
+  abbrev pub whole : Reads (List Record)
   whole = concentric_circles shape capacity
 
   -- past the last row
-  past : shape.height - 6 ≤ row → Listed whole capacity words marks₀ records₀ found marks records
+  pub past : shape.height - 6 ≤ row → Listed whole capacity words marks₀ records₀ found marks records
   unfolding rows_by
   past h = listed (go so_far.fuel so_far.resumes)
     where
@@ -86,27 +71,27 @@ module _ {words marks₀ records₀ marks records : List ℕ} {shape : Shape} {c
   -- a row
   module _ (h : row < shape.height - 6) {found' : ℕ} {marks' records' : List ℕ}
       (listed : Listed (row_from shape capacity shape.width row 6 (rows found records)) capacity words marks records found' marks' records') where
-    abbrev step : Reads (List Record)
+    abbrev pub step : Reads (List Record)
     step = row_from shape capacity shape.width row 6 (rows found records)
 
-    abbrev now : List Record
+    abbrev pub now : List Record
     now = value_of step words
 
-    ran : Ran step words marks now marks'
+    pub ran : Ran step words marks now marks'
     ran = record { result = refl; marked = listed.marked }
 
-    more : found ≤ found'
+    pub more : found ≤ found'
     more =
         let grown = always_ran (row_more shape capacity shape.width row 6 (rows found records)) ran in
         omega (arith, listed.stored.counted, length_rows found records, grown)
 
     -- a turn has fuel
-    record Turned : Type 0 where
-      fuel : ℕ
-      fueled : shape.height - row ≤ suc fuel
-      resumes : Resumes words (cond (ltb capacity (length now)) (done now) (rows_from shape capacity fuel (row + 2) now)) marks' whole marks₀
+    pub record Turned : Type 0 where
+      pub fuel : ℕ
+      pub fueled : shape.height - row ≤ suc fuel
+      pub resumes : Resumes words (cond (ltb capacity (length now)) (done now) (rows_from shape capacity fuel (row + 2) now)) marks' whole marks₀
 
-    turned : Turned
+    pub turned : Turned
     unfolding rows_by
     turned = go so_far.fuel so_far.fueled so_far.resumes
       where
@@ -116,13 +101,13 @@ module _ {words marks₀ records₀ marks records : List ℕ} {shape : Shape} {c
         go (suc n) enough resumes =
             record { fuel = n; fueled = enough; resumes = resumes_step _ ran (resumes_then _ _ (lt-ltb row (shape.height - 6) h) resumes) }
 
-    at_full : capacity < found' → Listed whole capacity words marks₀ records₀ found' marks' records'
+    pub at_full : capacity < found' → Listed whole capacity words marks₀ records₀ found' marks' records'
     at_full full =
         let most : capacity < length now = omega (arith, listed.stored.counted) in
         let end : Ran whole words marks₀ now marks' = resumes_end (ran_done _) (resumes_then _ _ (lt-ltb capacity _ most) turned.resumes) in
         record { stored = rw (← end.result) (stored_since so_far.rest so_far.room.few more listed.stored); marked = end.marked }
 
-    onward : found' ≤ capacity → length marks' ≡ length marks → length records' ≡ length records
+    pub onward : found' ≤ capacity → length marks' ≡ length marks → length records' ≡ length records
         → Sweeping words marks₀ records₀ shape capacity marks' records' found' (row + 2)
     onward few long same =
         let most : length now ≤ capacity = omega (arith, listed.stored.counted) in
@@ -136,64 +121,9 @@ module _ {words marks₀ records₀ marks records : List ℕ} {shape : Shape} {c
           resumes = rw (← stored_rows listed.stored few) (resumes_else _ _ (le-ltb capacity _ most) turned.resumes);
         }
 
-abbrev invariant-loop : tie.invariant-loop
-invariant-loop words marks₀ records₀ shape capacity found₀ row₀ marks records found row =
-    Sweeping words marks₀ records₀ shape capacity marks records found row
+abbrev pub invariant-loop-row : goal.invariant-loop-row
+invariant-loop-row l =
+    Sweeping l.words l.initial.marks l.initial.records l.shape l.capacity l.marks l.records l.found l.row
 
-abbrev decreases-loop : tie.decreases-loop
-decreases-loop words marks₀ records₀ shape capacity found₀ row₀ marks records found row = shape.height - row
-
-loop-holds : tie.Need-loop-init invariant-loop decreases-loop
-loop-holds c = search begins
-
-sub-if1 : tie.Need-overflow-sub-if1 invariant-loop decreases-loop
-sub-if1 c = search rules
-
-sweep-row-requires : tie.Need-sweep-row-requires invariant-loop decreases-loop
-sweep-row-requires c κs = search rules
-
-same_length : tie.Need-same-length invariant-loop decreases-loop
-same_length c = search rules
-
-same-length-2 : tie.Need-same-length-2 invariant-loop decreases-loop
-same-length-2 c = search rules
-
-returns : tie.Need-returns invariant-loop decreases-loop
-returns c = search at_full
-
-add_row : tie.Need-overflow-add-row invariant-loop decreases-loop
-add_row c = search rules
-
-loop-less : tie.Need-loop-smaller invariant-loop decreases-loop
-loop-less c = search rules
-
-loop-again : tie.Need-loop-preserved invariant-loop decreases-loop
-loop-again c = search onward
-
-same-length-3 : tie.Need-same-length-3 invariant-loop decreases-loop
-same-length-3 c = search rules
-
-same-length-4 : tie.Need-same-length-4 invariant-loop decreases-loop
-same-length-4 c = search rules
-
-returns-2 : tie.Need-returns-2 invariant-loop decreases-loop
-returns-2 c = search past
-
-pub find_concentric_circles_spec : {M : Type 1} → statement M
-find_concentric_circles_spec =
-    tie.close
-    (tie.spec
-    invariant-loop
-    decreases-loop
-    loop-holds
-    sub-if1
-    sweep-row-requires
-    same_length
-    same-length-2
-    returns
-    add_row
-    loop-less
-    loop-again
-    same-length-3
-    same-length-4
-    returns-2)
+abbrev pub decreases-loop-row : goal.decreases-loop-row
+decreases-loop-row l = l.shape.height - l.row

@@ -1,4 +1,4 @@
--- `detector_candidate::candidate_of` meets its contract: the runs are put into a record that has three words. Assumes nothing.
+-- `detector_candidate::candidate_of` meets its contract: the runs are put into a record that has three words.
 use Prim.Native.Nat.{ℕ, suc, ◌+◌}
 use mathlib.Core.Path.{◌≡◌, sym, ap, ap₂, ◌∙◌}
 use mathlib.Core.List.{List, ◌∷◌, ◌++◌}
@@ -7,23 +7,7 @@ use lib.ListN.{length, take, drop, replicate}
 use lib.Seq.{take_at, drop-append-add}
 use Rattle.detector_window.specs.declared.Bullseye.{Bullseye}
 use Rattle.detector_candidate.specs.Candidate.{candidate_of}
-use Rattle.detector_candidate.proofs.candidate_of.Statement.{statement}
-use Rattle.detector_candidate.proofs.candidate_of.Tie as tie
-
-array-write-fields : tie.Need-array-write-fields
-array-write-fields c = search rules
-
-array-write-fields-2 : tie.Need-array-write-fields-2
-array-write-fields-2 c = search rules
-
-array-write-fields-3 : tie.Need-array-write-fields-3
-array-write-fields-3 c = search rules
-
-with-runs-requires : tie.Need-with-runs-requires
-with-runs-requires c κs = search rules
-
-with-runs-requires-2 : tie.Need-with-runs-requires-2
-with-runs-requires-2 c κs = search rules
+use Rattle.detector_candidate.proofs.candidate_of.Goals as goal
 
 -- the two copies, one after the other
 copied : (row : ℕ) (eye : Bullseye) (vertical a b : List ℕ) → length eye.buckets ≡ 11
@@ -39,16 +23,5 @@ copied row eye vertical a b eleven first second =
     (ap (take 14) first ∙ take_at front back 14 long)
     (ap (drop 25) first ∙ ap (λ (n : ℕ). drop (n + 11) (front ++ back)) (sym long) ∙ drop-append-add front back 11)
 
-returns : tie.Need-returns
+pub returns : goal.returns
 returns c = search (copied, rules)
-
-pub candidate_of_spec : {M : Type 1} → statement M
-candidate_of_spec =
-    tie.close
-    (tie.spec
-    array-write-fields
-    array-write-fields-2
-    array-write-fields-3
-    with-runs-requires
-    with-runs-requires-2
-    returns)

@@ -1,16 +1,15 @@
 -- `detector_turn::try_scales` meets its contract. The invariant is `Trying`: from the present scale and circle, what is left of the definition ends as
--- the whole does. The measure is the scales left. Assumes nothing.
+-- the whole does. The measure is the scales left.
 use Prim.Native.Nat.{ℕ, suc, ◌+◌, ◌-◌, ◌≤◌, ◌<◌}
 use mathlib.Core.Bool.{Bool, true, false}
 use mathlib.Core.List.{List}
 use mathlib.Core.Path.{◌≡◌, refl, sym, ◌∙◌}
 use native.Mathlib.Omega.{arith}
-use borrow.Author.Rules.{rules}
 use lib.Dec.{T}
 use lib.Ieee.{Float}
 use lib.ListN.{length}
 use Rattle.reads.specs.ReadsLaws.{Always, always_done, always_after}
-use Rattle.reads.specs.RunsClauses.{Ran, Resumes}
+use Rattle.reads.specs.RunsClauses.{Ran}
 use Rattle.reads.specs.RunsLaws.{ran_is, ran_length, always_ran, resumes_start, resumes_step, resumes_then, resumes_else, resumes_end}
 use Rattle.bit_matrix.specs.declared.Shape.{Shape}
 use Rattle.detector_walks.specs.WalksLaws.{lent_on}
@@ -24,19 +23,13 @@ use Rattle.detector_turn.specs.Scales.{accepted_scale, is_outside, attempt_rotat
 use Rattle.detector_turn.specs.ScalesClauses.{LentCircle}
 use Rattle.detector_outcome.specs.Outcomes.{turned_by, not_turned, lost_at}
 use Rattle.detector_turn.specs.ScalesLaws.{inside_of, scale_accepted}
-use Rattle.detector_turn.proofs.try_scales.Statement.{statement}
-use Rattle.detector_turn.proofs.try_scales.Tie as tie
+use Rattle.detector_turn.proofs.try_scales.Invariants.{Trying}
+use Rattle.detector_turn.proofs.try_scales.Goals as goal
 
 -- the centre's correction keeps the radius
 radius_kept : (shape : Shape) (circle : Circle) → Always (λ (next : Circle). next.radius ≡ circle.radius) (corrected_circle shape circle)
 unfolding corrected_circle
 radius_kept shape circle = always_after _ _ λ center. always_done refl
-
-record Trying (words marks₀ : List ℕ) (shape : Shape) (table : List Float) (start : Circle) (marks : List ℕ) (circle : Circle) (scale : ℕ) : Type 0 where
-  lent : LentCircle shape words marks circle table
-  same : circle.radius ≡ start.radius
-  first : 1 ≤ scale
-  resumes : Resumes words (scales_from shape (6 - scale) scale circle) marks (try_scales shape start) marks₀
 
 begins : {words marks : List ℕ} {shape : Shape} {table : List Float} {circle : Circle} → LentCircle shape words marks circle table
     → Trying words marks shape table circle marks circle 1
@@ -107,105 +100,27 @@ module _ {words marks₀ marks : List ℕ} {shape : Shape} {table : List Float} 
           onward : rotation ≡ None → Trying words marks₀ shape table start last (record { center = next.center; radius = start.radius }) (scale + 1)
           onward is = at_next is (sym (kept ∙ trying.same))
 
-abbrev invariant-loop : tie.invariant-loop
-invariant-loop words marks₀ shape circle table last₀ scale₀ marks last scale = Trying words marks₀ shape table circle marks last scale
+pub loop-scale-init : goal.loop-scale-init
+loop-scale-init c = search begins
 
-abbrev decreases-loop : tie.decreases-loop
-decreases-loop words marks₀ shape circle table last₀ scale₀ marks last scale = 6 - scale
+pub returns-then-is_outside : goal.returns-then-is_outside
+returns-then-is_outside c = search outside
 
-loop-holds : tie.Need-loop-init invariant-loop decreases-loop
-loop-holds c = search begins
+pub attempt_rotation_box-rotation-requires : goal.attempt_rotation_box-rotation-requires
+attempt_rotation_box-rotation-requires c = (search lent_next, search is_scale_lem)
 
-with-corrected-center-requires : tie.Need-with-corrected-center-requires invariant-loop decreases-loop
-with-corrected-center-requires c κs = search rules
+pub shape_of-marks-in-Found : goal.shape_of-marks-in-Found
+shape_of-marks-in-Found c =
+    ran_length c.attempt_rotation_box-rotation.ensures ∙ ran_length c.with_corrected_center-next.ensures
+    ∙ c.loop-scale.invariant.lent.lent.image.sized ∙ sym c.requires.lent.image.sized
 
-is-outside-requires : tie.Need-is-outside-requires invariant-loop decreases-loop
-is-outside-requires c κs = search rules
+pub returns-in-Found : goal.returns-in-Found
+returns-in-Found c = search found
 
-lost-at-requires : tie.Need-lost-at-requires invariant-loop decreases-loop
-lost-at-requires c κs = search rules
+pub loop-scale-preserved : goal.loop-scale-preserved
+loop-scale-preserved c =
+    onward c.loop-scale.invariant c.loop-scale-test.true c.with_corrected_center-next.ensures c.is_outside.ensures c.if-is_outside.false
+    c.accepted_scale-percent.ensures c.attempt_rotation_box-rotation.ensures c.in_default.is
 
-same_length : tie.Need-same-length invariant-loop decreases-loop
-same_length c = search rules
-
-returns : tie.Need-returns invariant-loop decreases-loop
-returns c = search outside
-
-accepted-scale-requires : tie.Need-accepted-scale-requires invariant-loop decreases-loop
-accepted-scale-requires c κs = search rules
-
-attempt-rotation-box-requires : tie.Need-attempt-rotation-box-requires invariant-loop decreases-loop
-attempt-rotation-box-requires c κs = (search lent_next, search is_scale_lem)
-
-enum-known-rotation : tie.Need-enum-known-rotation invariant-loop decreases-loop
-enum-known-rotation c = search rules
-
-turned-by-requires : tie.Need-turned-by-requires invariant-loop decreases-loop
-turned-by-requires c κs = search rules
-
-same-length-2 : tie.Need-same-length-2 invariant-loop decreases-loop
-same-length-2 c =
-    let tried = c.before.before.before.before.before.before in
-    let ran = tried.before.before.before.before.before.before.before in
-    let loop = ran.before.before.before in
-    ran_length tried.attempt-rotation-box.ensures ∙ ran_length ran.with-corrected-center.ensures
-    ∙ loop.loop.invariant.lent.lent.image.sized ∙ sym loop.before.before.before.requires.lent.image.sized
-
-returns-2 : tie.Need-returns-2 invariant-loop decreases-loop
-returns-2 c = search found
-
-enum_told : tie.Need-enum-told invariant-loop decreases-loop
-enum_told c = search rules
-
-add-scale : tie.Need-overflow-add-scale invariant-loop decreases-loop
-add-scale c = search rules
-
-loop-less : tie.Need-loop-smaller invariant-loop decreases-loop
-loop-less c = search rules
-
-loop-again : tie.Need-loop-preserved invariant-loop decreases-loop
-loop-again c =
-    let told = c.before in
-    let tried = told.before.before.before.before in
-    let percent = tried.before.before in
-    let outside = percent.before in
-    let asked = outside.before in
-    let ran = asked.before.before.before in
-    let turn = ran.before.before in
-    onward turn.before.loop.invariant turn.loop-test.true ran.with-corrected-center.ensures asked.is-outside.ensures outside.if1.false
-    percent.accepted-scale.ensures tried.attempt-rotation-box.ensures told.enum_told.given.1
-
-not-turned-requires : tie.Need-not-turned-requires invariant-loop decreases-loop
-not-turned-requires c κs = search rules
-
-same-length-3 : tie.Need-same-length-3 invariant-loop decreases-loop
-same-length-3 c = search rules
-
-returns-3 : tie.Need-returns-3 invariant-loop decreases-loop
-returns-3 c = search at_end
-
-pub try_scales_spec : {M : Type 1} → statement M
-try_scales_spec =
-    tie.close
-    (tie.spec
-    invariant-loop
-    decreases-loop
-    loop-holds
-    with-corrected-center-requires
-    is-outside-requires
-    lost-at-requires
-    same_length
-    returns
-    accepted-scale-requires
-    attempt-rotation-box-requires
-    enum-known-rotation
-    turned-by-requires
-    same-length-2
-    returns-2
-    enum_told
-    add-scale
-    loop-less
-    loop-again
-    not-turned-requires
-    same-length-3
-    returns-3)
+pub returns : goal.returns
+returns c = search at_end

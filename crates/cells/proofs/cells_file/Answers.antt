@@ -1,9 +1,8 @@
--- `cells::cells_file` meets its contract: one lemma for each return. Assumes nothing.
+-- `cells::cells_file` meets its contract: one lemma for each return.
 use Prim.Native.Nat.{ℕ}
 use mathlib.Core.Bool.{false, ◌||◌}
 use mathlib.Core.List.{List}
 use mathlib.Core.Path.{◌≡◌, sym, ap, ap₂, ◌∙◌, subst⁻¹}
-use borrow.Author.Rules.{rules}
 use borrow.Author.Tests.{eqb-true, not-false}
 use lib.ListN.{length}
 use Rattle.bit_matrix.specs.declared.Shape.{Shape}
@@ -21,8 +20,7 @@ use Rattle.bit_matrix_rectangle.specs.RectangleClauses.{ImageAccepted}
 use Rattle.detector_points.specs.Orientation.{matrix_height}
 use Rattle.detector_cells.specs.Cells.{CellsRun, cells_run, read_bits}
 use Rattle.cells.specs.Entries.{file_cells_refusal, filed_cells, file_cells}
-use Rattle.cells.proofs.cells_file.Statement.{statement}
-use Rattle.cells.proofs.cells_file.Tie as tie
+use Rattle.cells.proofs.cells_file.Goals as goal
 
 module _ (file words cells : List ℕ) {c : Checked} (checks : Checks file c) {lent answer : ℕ}
     (image_is : lent ≡ or_six c.answer (misfit (length words) (size c.shape))) (is : answer ≡ or_six lent (misfit (length cells) matrix_height)) where
@@ -70,34 +68,17 @@ module _ (file words cells : List ℕ) {c : Checked} (checks : Checks file c) {l
           ap₂ filed_cells words_are (gave ∙ ap₂ (λ (s : Shape) (l : List ℕ). read_bits s l cells) shape_is words_are)
           ∙ is_accepted _ _ (sym number_is ∙ none)
 
-check-file-requires : tie.Need-check-file-requires
-check-file-requires c κs = search rules
+pub unpack_refusal-requires : goal.unpack_refusal-requires
+unpack_refusal-requires c = search checked_rows
 
-unpack-refusal-requires : tie.Need-unpack-refusal-requires
-unpack-refusal-requires c κs = search checked_rows
+pub returns-then-answer-ne0 : goal.returns-then-answer-ne0
+returns-then-answer-ne0 c = search refused
 
-or-six-requires : tie.Need-or-six-requires
-or-six-requires c κs = search rules
+pub unpack_rows-requires : goal.unpack_rows-requires
+unpack_rows-requires c = search (accepted, words_fitting)
 
-returns : tie.Need-returns
-returns c = search refused
+pub read_bits-requires : goal.read_bits-requires
+read_bits-requires c = search (image_accepted, cells_fitting)
 
-unpack-rows-requires : tie.Need-unpack-rows-requires
-unpack-rows-requires c κs = search (accepted, words_fitting)
-
-read-bits-requires : tie.Need-read-bits-requires
-read-bits-requires c κs = search (image_accepted, cells_fitting)
-
-same_length : tie.Need-same-length
-same_length c = search rules
-
-same-length-2 : tie.Need-same-length-2
-same-length-2 c = search rules
-
-returns-2 : tie.Need-returns-2
-returns-2 c = search read
-
-pub cells_file_spec : {M : Type 1} → statement M
-cells_file_spec =
-    tie.close
-    (tie.spec check-file-requires unpack-refusal-requires or-six-requires returns unpack-rows-requires read-bits-requires same_length same-length-2 returns-2)
+pub returns : goal.returns
+returns c = search read

@@ -1,4 +1,4 @@
--- `detector_turn::attempt_rotation_box` meets its contract: the degrees' run, at the points that the other calls give. Assumes nothing.
+-- `detector_turn::attempt_rotation_box` meets its contract: the degrees' run, at the points that the other calls give.
 use Prim.Native.Nat.{ℕ}
 use mathlib.Core.List.{List}
 use mathlib.Core.Path.{◌≡◌}
@@ -20,8 +20,7 @@ use Rattle.detector_turn.specs.Scales.{attempt_rotation_box}
 use Rattle.detector_turn.specs.ScalesClauses.{LentCircle}
 use Rattle.detector_turn.specs.ScalesLaws.{centered_of}
 use borrow.Author.Rules.{rules}
-use Rattle.detector_turn.proofs.attempt_rotation_box.Statement.{statement}
-use Rattle.detector_turn.proofs.attempt_rotation_box.Tie as tie
+use Rattle.detector_turn.proofs.attempt_rotation_box.Goals as goal
 
 placed : {shape : Shape} {words marks : List ℕ} {circle : Circle} {table : List Float} (scale : Float) {b : Boundary}
     → LentCircle shape words marks circle table → T (is_scale scale) → b ≡ scaled_boundary shape circle.center circle.radius scale → Placed b
@@ -35,27 +34,11 @@ attempted : {words marks after : List ℕ} {r : Rotation} (shape : Shape) (circl
 unfolding attempt_rotation_box
 attempted shape circle scale e f ran = rw (f, e) at ran
 
-scaled-boundary-requires : tie.Need-scaled-boundary-requires
-scaled-boundary-requires c κs = search (rules, centered_of)
+pub scaled_boundary-boundary-requires : goal.scaled_boundary-boundary-requires
+scaled_boundary-boundary-requires c = search (rules, centered_of)
 
-adjusted-orientation-points-requires : tie.Need-adjusted-orientation-points-requires
-adjusted-orientation-points-requires c κs = search placed
+pub adjusted_orientation_points-points-requires : goal.adjusted_orientation_points-points-requires
+adjusted_orientation_points-points-requires c = search placed
 
-try-degrees-requires : tie.Need-try-degrees-requires
-try-degrees-requires c κs = search rules
-
-same_length : tie.Need-same-length
-same_length c = search rules
-
-returns : tie.Need-returns
+pub returns : goal.returns
 returns c = search attempted
-
-pub attempt_rotation_box_spec : {M : Type 1} → statement M
-attempt_rotation_box_spec =
-    tie.close
-    (tie.spec
-    scaled-boundary-requires
-    adjusted-orientation-points-requires
-    try-degrees-requires
-    same_length
-    returns)

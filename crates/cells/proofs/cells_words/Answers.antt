@@ -1,9 +1,8 @@
--- `cells::cells_words` meets its contract: one lemma for each return. Assumes nothing.
+-- `cells::cells_words` meets its contract: one lemma for each return.
 use Prim.Native.Nat.{ℕ}
 use mathlib.Core.Bool.{false}
 use mathlib.Core.List.{List}
 use mathlib.Core.Path.{◌≡◌, sym, ap, ◌∙◌}
-use borrow.Author.Rules.{rules}
 use borrow.Author.Tests.{eqb-true, not-false}
 use lib.ListN.{length}
 use Rattle.bit_matrix.specs.declared.Shape.{Shape}
@@ -17,8 +16,7 @@ use Rattle.detector_points.specs.Orientation.{matrix_height}
 use Rattle.detector_cells.specs.Cells.{CellsRun, cells_run, read_bits}
 use Rattle.cells.specs.Entries.{words_cells_refusal, words_cells}
 use Rattle.cells.specs.EntriesLaws.{words_cells_read}
-use Rattle.cells.proofs.cells_words.Statement.{statement}
-use Rattle.cells.proofs.cells_words.Tie as tie
+use Rattle.cells.proofs.cells_words.Goals as goal
 
 module _ (words : List ℕ) (w h : ℕ) (cells : List ℕ) {checked answer : ℕ} (image : checked ≡ words_refusal_of words w h false)
     (is : answer ≡ or_six checked (misfit (length cells) matrix_height)) where
@@ -44,28 +42,11 @@ module _ (words : List ℕ) (w h : ℕ) (cells : List ℕ) {checked answer : ℕ
     read : {shape : Shape} {left : CellsRun} → shape ≡ shape_of w h → left ≡ read_bits shape words cells → left ≡ words_cells words w h cells
     read Shape_is gave = gave ∙ ap (λ (s : Shape). read_bits s words cells) Shape_is ∙ sym (words_cells_read words w h cells passes)
 
-check-words-requires : tie.Need-check-words-requires
-check-words-requires c κs = search rules
+pub returns-then-answer-ne0 : goal.returns-then-answer-ne0
+returns-then-answer-ne0 c = search refused
 
-or-six-requires : tie.Need-or-six-requires
-or-six-requires c κs = search rules
+pub read_bits-requires : goal.read_bits-requires
+read_bits-requires c = search (accepted, fitting)
 
-returns : tie.Need-returns
-returns c = search refused
-
-shape-of-requires : tie.Need-shape-of-requires
-shape-of-requires c κs = search rules
-
-read-bits-requires : tie.Need-read-bits-requires
-read-bits-requires c κs = search (accepted, fitting)
-
-same_length : tie.Need-same-length
-same_length c = search rules
-
-returns-2 : tie.Need-returns-2
-returns-2 c = search read
-
-pub cells_words_spec : {M : Type 1} → statement M
-cells_words_spec =
-    tie.close
-    (tie.spec check-words-requires or-six-requires returns shape-of-requires read-bits-requires same_length returns-2)
+pub returns : goal.returns
+returns c = search read

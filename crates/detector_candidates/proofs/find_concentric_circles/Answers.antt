@@ -1,0 +1,39 @@
+-- `detector_candidates::find_concentric_circles` meets its contract. The invariant is `Sweeping`: with some fuel, what is left of the sweep ends as the whole
+-- does, and only the candidates so far were written. The measure is the rows left.
+use Prim.Native.Nat.{ℕ}
+use mathlib.Core.Path.{refl}
+use mathlib.Core.List.{List}
+use native.Mathlib.Omega.{arith}
+use Rattle.reads.specs.RunsLaws.{resumes_start}
+use Rattle.records.specs.Records.{rows}
+use Rattle.bit_matrix.specs.declared.Shape.{Shape}
+use Rattle.bit_matrix.specs.ShapeClauses.{Image}
+use Rattle.detector_candidates.specs.CandidatesClauses.{Room}
+use Rattle.detector_candidates.specs.Candidates.{concentric_circles_by}
+use Rattle.detector_candidates.proofs.find_concentric_circles.Invariants.{Sweeping, at_full, onward, past}
+use Rattle.detector_candidates.proofs.find_concentric_circles.Goals as goal
+
+begins : {words marks records : List ℕ} {shape : Shape} {capacity : ℕ} → Image shape words marks → Room capacity records 0
+    → Sweeping words marks records shape capacity marks records 0 6
+unfolding concentric_circles_by rows
+begins {shape = shape} image room = record {
+  fuel = shape.height;
+  image = image;
+  room = room;
+  same = refl;
+  fueled = omega arith;
+  rest = refl;
+  resumes = resumes_start;
+}
+
+pub loop-row-init : goal.loop-row-init
+loop-row-init c = search begins
+
+pub returns-then-found-capacity : goal.returns-then-found-capacity
+returns-then-found-capacity c = search at_full
+
+pub loop-row-preserved : goal.loop-row-preserved
+loop-row-preserved c = search onward
+
+pub returns : goal.returns
+returns c = search past
