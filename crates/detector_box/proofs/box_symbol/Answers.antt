@@ -1,4 +1,4 @@
--- `detector_box::box_symbol` meets its contract: the turn's run, and what the other calls ensure. Assumes nothing.
+-- `detector_box::box_symbol` meets its contract: the turn's run, and what the other calls ensure.
 use Prim.Native.Nat.{ℕ, ◌<◌}
 use native.Mathlib.Omega.{arith}
 use mathlib.Core.Bool.{Bool}
@@ -22,8 +22,7 @@ use Rattle.detector_box.specs.Boxes.{turn_at, symbol_at}
 use Rattle.detector_box.specs.BoxesLaws.{turn_ended}
 use Rattle.detector_corners.specs.Corners.{corners_of}
 use borrow.Author.Rules.{rules}
-use Rattle.detector_box.proofs.box_symbol.Statement.{statement}
-use Rattle.detector_box.proofs.box_symbol.Tie as tie
+use Rattle.detector_box.proofs.box_symbol.Goals as goal
 
 placed : {shape : Shape} {words marks : List ℕ} {circle : Circle} {table : List Float} {b : Boundary} → LentCircle shape words marks circle table
     → b ≡ plain_boundary shape circle.center circle.radius → Placed b
@@ -43,31 +42,14 @@ boxed : {words marks after : List ℕ} (ellipse : Bool) (shape : Shape) (circle 
 unfolding symbol_at
 boxed ellipse shape circle e ran f g = ran_bind _ ran (ran_is (rw (f, g, e)))
 
-turn-of-requires : tie.Need-turn-of-requires
-turn-of-requires c κs = search rules
+pub plain_boundary-boundary-requires : goal.plain_boundary-boundary-requires
+plain_boundary-boundary-requires c = search (rules, centered_of)
 
-plain-boundary-requires : tie.Need-plain-boundary-requires
-plain-boundary-requires c κs = search (rules, centered_of)
+pub corners_of-corners-requires : goal.corners_of-corners-requires
+corners_of-corners-requires c = search (rules, placed)
 
-corners-of-requires : tie.Need-corners-of-requires
-corners-of-requires c κs = search (rules, placed)
+pub class_of-class-requires : goal.class_of-class-requires
+class_of-class-requires c = search low
 
-class-of-requires : tie.Need-class-of-requires
-class-of-requires c κs = search low
-
-same_length : tie.Need-same-length
-same_length c = search rules
-
-returns : tie.Need-returns
+pub returns : goal.returns
 returns c = search boxed
-
-pub box_symbol_spec : {M : Type 1} → statement M
-box_symbol_spec =
-    tie.close
-    (tie.spec
-    turn-of-requires
-    plain-boundary-requires
-    corners-of-requires
-    class-of-requires
-    same_length
-    returns)

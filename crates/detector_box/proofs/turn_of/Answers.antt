@@ -1,4 +1,4 @@
--- `detector_box::turn_of` meets its contract, by the option and the check's answer. Assumes nothing.
+-- `detector_box::turn_of` meets its contract, by the option and the check's answer.
 use Prim.Native.Nat.{ℕ}
 use mathlib.Core.Bool.{Bool, true, false}
 use mathlib.Core.List.{List}
@@ -21,8 +21,7 @@ use Rattle.detector_turn.specs.Scales.{try_scales}
 use Rattle.detector_turn.specs.ScalesClauses.{LentCircle}
 use Rattle.detector_box.specs.Boxes.{turn_at}
 use Rattle.detector_box.specs.BoxesClauses.{FlankedWhen}
-use Rattle.detector_box.proofs.turn_of.Statement.{statement}
-use Rattle.detector_box.proofs.turn_of.Tie as tie
+use Rattle.detector_box.proofs.turn_of.Goals as goal
 
 -- what the scales are lent, with the marks that the check leaves
 circle_on : {shape : Shape} {words marks after : List ℕ} {circle : Circle} {table : List Float} → LentCircle shape words marks circle table
@@ -49,47 +48,17 @@ checkable : {shape : Shape} {words : List ℕ} (circle : Circle) (ellipse : Bool
     → Flanked shape (bit_at words) circle.center.x circle.center.y
 checkable circle ellipse when on = when.flanked on
 
-try-scales-requires : tie.Need-try-scales-requires
-try-scales-requires c κs = search rules
+pub returns-then-not-ellipse : goal.returns-then-not-ellipse
+returns-then-not-ellipse c = search (unasked, not-true)
 
-same_length : tie.Need-same-length
-same_length c = search rules
+pub detect_ellipse-requires : goal.detect_ellipse-requires
+detect_ellipse-requires c = (search rules, search (checkable, not-false))
 
-returns : tie.Need-returns
-returns c = search (unasked, not-true)
+pub returns-then-detect_ellipse : goal.returns-then-detect_ellipse
+returns-then-detect_ellipse c = search (found, not-false)
 
-detect-ellipse-requires : tie.Need-detect-ellipse-requires
-detect-ellipse-requires c κs = (search rules, search (checkable, not-false))
+pub try_scales-requires-2 : goal.try_scales-requires-2
+try_scales-requires-2 c = search circle_on
 
-ellipse-at-requires : tie.Need-ellipse-at-requires
-ellipse-at-requires c κs = search rules
-
-same-length-2 : tie.Need-same-length-2
-same-length-2 c = search rules
-
-returns-2 : tie.Need-returns-2
-returns-2 c = search (found, not-false)
-
-try-scales-requires-2 : tie.Need-try-scales-requires-2
-try-scales-requires-2 c κs = search circle_on
-
-same-length-3 : tie.Need-same-length-3
-same-length-3 c = search rules
-
-returns-3 : tie.Need-returns-3
-returns-3 c = search (passed_over, not-false)
-
-pub turn_of_spec : {M : Type 1} → statement M
-turn_of_spec =
-    tie.close
-    (tie.spec
-    try-scales-requires
-    same_length
-    returns
-    detect-ellipse-requires
-    ellipse-at-requires
-    same-length-2
-    returns-2
-    try-scales-requires-2
-    same-length-3
-    returns-3)
+pub returns : goal.returns
+returns c = search (passed_over, not-false)

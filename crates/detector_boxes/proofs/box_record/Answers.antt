@@ -1,9 +1,8 @@
--- `detector_boxes::box_record` meets its contract. Assumes nothing.
+-- `detector_boxes::box_record` meets its contract.
 use Prim.Native.Nat.{ℕ}
 use mathlib.Core.Path.{◌≡◌}
 use mathlib.Core.Bool.{Bool}
 use mathlib.Core.List.{List}
-use borrow.Author.Rules.{rules}
 use lib.Ieee.{Float}
 use Rattle.reads.specs.RunsClauses.{Ran}
 use Rattle.reads.specs.RunsLaws.{ran_bind, ran_is}
@@ -18,8 +17,7 @@ use Rattle.detector_symbol.specs.Symbols.{with_symbol}
 use Rattle.detector_symbol.specs.declared.Symbol.{Symbol}
 use Rattle.detector_boxes.specs.Boxing.{circle_of, boxed}
 use Rattle.detector_boxes.specs.BoxingClauses.{Boxable}
-use Rattle.detector_boxes.proofs.box_record.Statement.{statement}
-use Rattle.detector_boxes.proofs.box_record.Tie as tie
+use Rattle.detector_boxes.proofs.box_record.Goals as goal
 
 lent : {shape : Shape} {words marks : List ℕ} {table : List Float} {r : Record} (ellipse : Bool) → Image shape words marks → Boxable shape words r
     → table ≡ sines → LentCircle shape words marks (circle_of r) table
@@ -39,35 +37,8 @@ made : {words m₀ m₁ : List ℕ} (ellipse : Bool) (shape : Shape) (r : Record
 unfolding boxed
 made ellipse shape r ran stored = ran_bind _ ran (ran_is stored)
 
-array-read-x : tie.Need-array-read-x
-array-read-x c = search rules
+pub box_symbol-symbol-requires : goal.box_symbol-symbol-requires
+box_symbol-symbol-requires c = search lent
 
-array-read-y : tie.Need-array-read-y
-array-read-y c = search rules
-
-array-read-radius : tie.Need-array-read-radius
-array-read-radius c = search rules
-
-box-symbol-requires : tie.Need-box-symbol-requires
-box-symbol-requires c κs = search lent
-
-symbol-fields-requires : tie.Need-symbol-fields-requires
-symbol-fields-requires c κs = search rules
-
-same_length : tie.Need-same-length
-same_length c = search rules
-
-returns : tie.Need-returns
+pub returns : goal.returns
 returns c = search made
-
-pub box_record_spec : {M : Type 1} → statement M
-box_record_spec =
-    tie.close
-    (tie.spec
-    array-read-x
-    array-read-y
-    array-read-radius
-    box-symbol-requires
-    symbol-fields-requires
-    same_length
-    returns)

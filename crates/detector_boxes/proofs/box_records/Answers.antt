@@ -1,6 +1,6 @@
 -- `detector_boxes::box_records` meets its contract. The invariant is `Boxing`: the records passed have their symbols, the others are as they were, and what
--- is left of the definition ends as the whole does. The measure is the records left. Assumes nothing.
-use Prim.Native.Nat.{ℕ, ◌+◌, ◌-◌, ◌≤◌, ◌<◌, suc}
+-- is left of the definition ends as the whole does. The measure is the records left.
+use Prim.Native.Nat.{ℕ, ◌+◌, ◌≤◌, ◌<◌, suc}
 use native.Mathlib.Nat.{add-zero}
 use native.Mathlib.Numerals.{add-one}
 use native.Mathlib.Omega.{arith}
@@ -10,29 +10,19 @@ use mathlib.Core.List.{List, [], ◌∷◌, ◌++◌}
 use borrow.Author.Rules.{rules}
 use lib.ListN.{length, get_or, take, drop, set}
 use lib.Seq.{take-suc-set, drop-set-lt, drop-cons, drop-drop, drop-length, take_all, get_or-drop}
-use Rattle.reads.specs.RunsClauses.{Ran, Resumes}
+use Rattle.reads.specs.RunsClauses.{Ran}
 use Rattle.reads.specs.RunsLaws.{ran_done, resumes_start, resumes_step, resumes_end}
 use Rattle.bit_matrix.specs.declared.Shape.{Shape}
 use Rattle.records.specs.Records.{Record, rows}
-use Rattle.records.specs.RecordsClauses.{get, put, Became, Each}
-use Rattle.records.specs.RecordsLaws.{Beside, length_rows, get_row, replaced, beside_start, beside_then, beside_room, each_at}
+use Rattle.records.specs.RecordsClauses.{get, put, Became}
+use Rattle.records.specs.RecordsLaws.{length_rows, get_row, replaced, beside_start, beside_then, beside_room, each_at}
 use Rattle.bit_matrix.specs.ShapeClauses.{Image}
 use Rattle.bit_matrix.specs.ShapeLaws.{image_kept}
 use Rattle.detector_boxes.specs.Boxing.{boxed, boxed_all}
 use Rattle.detector_boxes.specs.BoxingClauses.{Boxable, AllBoxable, Boxed}
 use Rattle.detector_boxes.proofs.OneByOne.{boxed_from, all_at_once}
-use Rattle.detector_boxes.proofs.box_records.Statement.{statement}
-use Rattle.detector_boxes.proofs.box_records.Tie as tie
-
-record Boxing (words marks₀ records₀ : List ℕ) (shape : Shape) (kept : ℕ) (ellipse : Bool) (marks records : List ℕ) (i : ℕ) : Type 0 where
-  few : i ≤ kept
-  image : Image shape words marks
-  each : Each (Boxable shape words) (rows kept records₀)
-  beside : Beside kept records₀ records
-  back : drop i (rows kept records) ≡ drop i (rows kept records₀)
-  resumes : Resumes words
-      (boxed_from ellipse shape (take i (rows kept records)) (drop i (rows kept records₀))) marks
-      (boxed_from ellipse shape [] (rows kept records₀)) marks₀
+use Rattle.detector_boxes.proofs.box_records.Invariants.{Boxing}
+use Rattle.detector_boxes.proofs.box_records.Goals as goal
 
 begins : {words marks records : List ℕ} {shape : Shape} {kept : ℕ} (ellipse : Bool) → Image shape words marks
     → AllBoxable shape words kept records
@@ -113,55 +103,14 @@ module _ {words marks₀ records₀ marks records : List ℕ} {shape : Shape} {k
       end : Ran (boxed_all ellipse shape (rows kept records₀)) words marks₀ (take i (rows kept records)) marks
       end = all_at_once ellipse shape (rows kept records₀) (resumes_end (ran_done _) (rw none at so_far.resumes))
 
-abbrev invariant-loop : tie.invariant-loop
-invariant-loop words marks₀ records₀ shape kept table ellipse i₀ marks records i = Boxing words marks₀ records₀ shape kept ellipse marks records i
+pub loop-i-init : goal.loop-i-init
+loop-i-init c = search begins
 
-abbrev decreases-loop : tie.decreases-loop
-decreases-loop words marks₀ records₀ shape kept table ellipse i₀ marks records i = kept - i
+pub box_record-boxed-requires : goal.box_record-boxed-requires
+box_record-boxed-requires c = (search rules, search fit, search rules)
 
-loop-holds : tie.Need-loop-init invariant-loop decreases-loop
-loop-holds c = search begins
+pub loop-i-preserved : goal.loop-i-preserved
+loop-i-preserved c = search (onward, rules)
 
-load-requires : tie.Need-load-requires invariant-loop decreases-loop
-load-requires c κs = search rules
-
-box-record-requires : tie.Need-box-record-requires invariant-loop decreases-loop
-box-record-requires c κs = (search rules, search fit, search rules)
-
-store-requires : tie.Need-store-requires invariant-loop decreases-loop
-store-requires c κs = search rules
-
-add-i : tie.Need-overflow-add-i invariant-loop decreases-loop
-add-i c = search rules
-
-loop-less : tie.Need-loop-smaller invariant-loop decreases-loop
-loop-less c = search rules
-
-loop-again : tie.Need-loop-preserved invariant-loop decreases-loop
-loop-again c = search (onward, rules)
-
-same_length : tie.Need-same-length invariant-loop decreases-loop
-same_length c = search rules
-
-same-length-2 : tie.Need-same-length-2 invariant-loop decreases-loop
-same-length-2 c = search rules
-
-returns : tie.Need-returns invariant-loop decreases-loop
+pub returns : goal.returns
 returns c = search over
-
-pub box_records_spec : {M : Type 1} → statement M
-box_records_spec =
-    tie.close
-    (tie.spec
-    invariant-loop
-    decreases-loop
-    loop-holds
-    load-requires
-    box-record-requires
-    store-requires
-    add-i
-    loop-less
-    loop-again
-    same_length
-    same-length-2
-    returns)
