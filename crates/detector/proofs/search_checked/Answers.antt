@@ -1,9 +1,8 @@
--- `detector::search_checked` meets its contract: one lemma for each return. Assumes nothing.
+-- `detector::search_checked` meets its contract: one lemma for each return.
 use Prim.Native.Nat.{ℕ, ◌≤◌}
 use mathlib.Core.Bool.{Bool, ◌||◌}
 use mathlib.Core.List.{List}
 use mathlib.Core.Path.{◌≡◌, sym, ap, ap₂, ◌∙◌}
-use borrow.Author.Rules.{rules}
 use lib.ListN.{length}
 use Rattle.bit_matrix.specs.declared.Shape.{Shape}
 use Rattle.bit_matrix.specs.Shape.{size}
@@ -18,8 +17,7 @@ use Rattle.crop.specs.CropLaws.{is_refused, is_accepted, file_refusal_by, ready_
 use Rattle.crop.specs.declared.Checked.{Checked}
 use Rattle.detector.specs.Detector.{Run, run, refused_report, accepted_run, filed, file_run}
 use Rattle.detector.specs.declared.Report.{Report}
-use Rattle.detector.proofs.search_checked.Statement.{statement}
-use Rattle.detector.proofs.search_checked.Tie as tie
+use Rattle.detector.proofs.search_checked.Goals as goal
 
 module _ (file words records marks : List ℕ) (ellipse : Bool) {c : Checked} (checks : Checks file c) {number : ℕ}
     (is : number ≡ or_six c.answer (misfit (length words) (size c.shape) || no_room (size c.shape) (length marks) (length records))) where
@@ -59,43 +57,17 @@ module _ (file words records marks : List ℕ) (ellipse : Bool) {c : Checked} (c
           ap₂ filed words_are (searched ∙ ap₂ (λ (s : Shape) (l : List ℕ). accepted_run s l records ellipse) shape_is words_are)
           ∙ is_accepted _ _ (sym number_is ∙ none)
 
-file-refusal-requires : tie.Need-file-refusal-requires
-file-refusal-requires c κs = search checked_rows
+pub file_refusal-answer-requires : goal.file_refusal-answer-requires
+file_refusal-answer-requires c = search checked_rows
 
-refused-requires : tie.Need-refused-requires
-refused-requires c κs = search rules
+pub returns-then-answer-ne0 : goal.returns-then-answer-ne0
+returns-then-answer-ne0 c = search file_refused
 
-returns : tie.Need-returns
-returns c = search file_refused
+pub unpack_rows-requires : goal.unpack_rows-requires
+unpack_rows-requires c = search (checked_accepted, file_size)
 
-unpack-rows-requires : tie.Need-unpack-rows-requires
-unpack-rows-requires c κs = search (checked_accepted, file_size)
+pub search_accepted-requires : goal.search_accepted-requires
+search_accepted-requires c = search (file_image, file_room)
 
-search-accepted-requires : tie.Need-search-accepted-requires
-search-accepted-requires c κs = search (file_image, file_room)
-
-same_length : tie.Need-same-length
-same_length c = search rules
-
-same-length-2 : tie.Need-same-length-2
-same-length-2 c = search rules
-
-same-length-3 : tie.Need-same-length-3
-same-length-3 c = search rules
-
-returns-2 : tie.Need-returns-2
-returns-2 c = search file_searched
-
-pub search_checked_spec : {M : Type 1} → statement M
-search_checked_spec =
-    tie.close
-    (tie.spec
-    file-refusal-requires
-    refused-requires
-    returns
-    unpack-rows-requires
-    search-accepted-requires
-    same_length
-    same-length-2
-    same-length-3
-    returns-2)
+pub returns : goal.returns
+returns c = search file_searched
