@@ -4,7 +4,7 @@ use native.Mathlib.Omega.{arith}
 use mathlib.Core.Bool.{Bool, true, false, not, ◌&&◌, true≢false}
 use mathlib.Core.Path.{◌≡◌, refl, sym, ap, ap₂, subst, ◌∙◌}
 use mathlib.Core.List.{List, [], ◌∷◌}
-use borrow.Author.Tests.{not-true, not-false, eqb-true, eq-eqb, ltb-true, lt-ltb}
+use borrow.Author.Tests.{eqb-true, eq-eqb, ltb-true, lt-ltb}
 use lib.Dec.{T, eqb, ltb}
 use lib.ListN.{length, take, drop}
 use lib.Seq.{get_or-drop}
@@ -50,15 +50,15 @@ module _ {P : Type 0} where
   decides_false misfit = record { sound = λ e. absurd (true≢false (sym e)); complete = λ p. absurd (misfit p) }
 
   -- what a test that is passed tells
-  pub passed_test : {b : Bool} → Decides b P → not b ≡ false → P
-  passed_test d e = d.sound (not-false _ e)
+  pub passed_test : {b : Bool} → Decides b P → b ≡ true → P
+  passed_test d e = d.sound e
 
   -- and one that is failed
-  pub failed_test : {b : Bool} → Decides b P → not b ≡ true → P → ⊥
-  failed_test d e p = true≢false (sym (d.complete p) ∙ not-true _ e)
+  pub failed_test : {b : Bool} → Decides b P → b ≡ false → P → ⊥
+  failed_test d e p = true≢false (sym (d.complete p) ∙ e)
 
   -- an input that fails a test that it would pass if it did fit
-  pub refuse_test : {fits answered refused : Type 0} {b : Bool} → Decides b P → not b ≡ true → (fits → P) → refused → Guarded fits answered refused
+  pub refuse_test : {fits answered refused : Type 0} {b : Bool} → Decides b P → b ≡ false → (fits → P) → refused → Guarded fits answered refused
   refuse_test d e part r = refuse (λ f. failed_test d e (part f)) r
 
   -- a test that decides the rest of what is tested
@@ -96,30 +96,30 @@ module _ (w h : ℕ) {shape : Shape} (is : shape ≡ shape_of w h) {b : Bool} wh
       → Decides b (Lent (shape_of w h) words marks center sines)
   lent_as d = rw is at d
 
-  pub centered_passed_as : {center : PointU} → Decides b (Centered shape center) → not b ≡ false → Centered (shape_of w h) center
+  pub centered_passed_as : {center : PointU} → Decides b (Centered shape center) → b ≡ true → Centered (shape_of w h) center
   centered_passed_as d = passed_test (centered_as d)
 
-  pub image_passed_as : {words marks : List ℕ} → Decides b (Image shape words marks) → not b ≡ false → Image (shape_of w h) words marks
+  pub image_passed_as : {words marks : List ℕ} → Decides b (Image shape words marks) → b ≡ true → Image (shape_of w h) words marks
   image_passed_as d = passed_test (image_as d)
 
-  pub lent_passed_as : {words marks : List ℕ} {center : PointU} → Decides b (Lent shape words marks center sines) → not b ≡ false
+  pub lent_passed_as : {words marks : List ℕ} {center : PointU} → Decides b (Lent shape words marks center sines) → b ≡ true
       → Lent (shape_of w h) words marks center sines
   lent_passed_as d = passed_test (lent_as d)
 
 -- lent with the table that was made
 pub lent_passed : {b : Bool} {shape : Shape} {words marks : List ℕ} {center : PointU} {table : List Float} → Decides b (Lent shape words marks center sines)
-    → not b ≡ false → table ≡ sines → Lent shape words marks center table
+    → b ≡ true → table ≡ sines → Lent shape words marks center table
 lent_passed d e same =
     let lent = passed_test d e in
     record { image = lent.image; inside = lent.inside; table_is = same }
 
-pub small_passed : {b : Bool} {n : ℕ} {words : List ℕ} → Decides b (SmallTo n words) → not b ≡ false → SmallTo n words
+pub small_passed : {b : Bool} {n : ℕ} {words : List ℕ} → Decides b (SmallTo n words) → b ≡ true → SmallTo n words
 small_passed = passed_test
 
-pub cell_passed : {b : Bool} (cell : PointU) → Decides b (T (is_cell cell)) → not b ≡ false → T (is_cell cell)
+pub cell_passed : {b : Bool} (cell : PointU) → Decides b (T (is_cell cell)) → b ≡ true → T (is_cell cell)
 cell_passed cell = passed_test
 
-pub scale_passed_as : {b : Bool} {p : Float} (q : Float) → p ≡ q → Decides b (T (is_scale p)) → not b ≡ false → T (is_scale q)
+pub scale_passed_as : {b : Bool} {p : Float} (q : Float) → p ≡ q → Decides b (T (is_scale p)) → b ≡ true → T (is_scale q)
 scale_passed_as q e d = passed_test (scale_of e d)
 
 take_small : (n : ℕ) (words : List ℕ) → SmallTo n words → Small (take n words)

@@ -14,7 +14,7 @@ returns-then-not-all_small c = refuse_test c.all_small.ensures c.if-not-all_smal
 pub keep_and_rank-requires : goal.keep_and_rank-requires
 keep_and_rank-requires c =
     let few = passed_test c.all_small.ensures c.if-not-all_small.false in
-    (candidates c.capacity_of.ensures (search rules) few, search rules, search rules)
+    (candidates c.capacity_of-capacity.ensures (search rules) few, search rules, search rules)
 
 pub returns : goal.returns
 returns c = answer (search (small_passed, rules)) (search kept_as)
