@@ -5,9 +5,9 @@ use Rattle.std.proofs.Math.Nat.{mul-le-mul}
 use Rattle.std.proofs.Common.{arith, inl, inr, lt-ltb, le-ltb}
 use Rattle.reads.specs.Reads.{done}
 use Rattle.reads.specs.Bits.{bit_at, mark}
-use Rattle.reads.specs.BitsLaws.{bit_past, mark_past}
+use Rattle.reads.proofs.BitsLaws.{bit_past, mark_past}
 use Rattle.reads.specs.RunsClauses.{Ran}
-use Rattle.reads.specs.RunsLaws.{ran_done, ran_read, ran_then, ran_else}
+use Rattle.reads.proofs.RunsLaws.{ran_done, ran_read, ran_then, ran_else}
 use Rattle.bit_matrix.specs.declared.Shape.{Shape}
 use Rattle.bit_matrix.specs.Shape.{size}
 use Rattle.bit_matrix.specs.ShapeClauses.{Limits, Inside}

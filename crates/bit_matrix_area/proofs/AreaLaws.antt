@@ -6,11 +6,12 @@ use mathlib.Core.Path.{◌≡◌, refl, sym, ap, ◌∙◌, fun_ext}
 use native.Mathlib.Omega.{arith}
 use lib.ListN.{length, length-append, length-map}
 use Rattle.reads.specs.Reads.{Reads, done, ◌>>=◌}
-use Rattle.reads.specs.ReadsLaws.{Always, bind_assoc, always_done, always_after}
+use Rattle.reads.specs.ReadsLaws.{Always}
+use Rattle.reads.proofs.ReadsLaws.{bind_assoc, always_done, always_after}
 use Rattle.reads.specs.Bits.{digit, range}
-use Rattle.reads.specs.BitsLaws.{digit_low, length_range}
+use Rattle.reads.proofs.BitsLaws.{digit_low, length_range}
 use Rattle.reads.specs.RunsClauses.{Ran}
-use Rattle.reads.specs.RunsLaws.{ran_done, ran_bind, always_ran}
+use Rattle.reads.proofs.RunsLaws.{ran_done, ran_bind, always_ran}
 use Rattle.bit_matrix.specs.declared.Shape.{Shape}
 use Rattle.bit_matrix.specs.Pixels.{try_get, if_sample}
 use Rattle.bit_matrix.specs.PixelsLaws.{ran_outside}

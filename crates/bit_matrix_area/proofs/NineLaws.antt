@@ -8,10 +8,10 @@ use native.Mathlib.Omega.{arith}
 use borrow.Author.Tests.{lt-ltb}
 use lib.ListN.{length}
 use Rattle.reads.specs.Bits.{digit, bit_at, mark, mark_all, range}
-use Rattle.reads.specs.BitsLaws.{length_mark}
-use Rattle.reads.specs.OrderLaws.{transposed}
+use Rattle.reads.proofs.BitsLaws.{length_mark}
+use Rattle.reads.proofs.OrderLaws.{transposed}
 use Rattle.reads.specs.RunsClauses.{Ran}
-use Rattle.reads.specs.RunsLaws.{ran_done, ran_bind, ran_then}
+use Rattle.reads.proofs.RunsLaws.{ran_done, ran_bind, ran_then}
 use Rattle.bit_matrix.specs.declared.Shape.{Shape}
 use Rattle.bit_matrix.specs.Shape.{size}
 use Rattle.bit_matrix.specs.ShapeClauses as shapes

@@ -10,8 +10,8 @@ use lib.Dec.{eqb, leb, lit<}
 use lib.ListN.{length, get_or, set}
 use lib.Pow.{shl_exact, shr-shr}
 use Rattle.reads.specs.Bits.{digit, test_bit, bit_at, mark_all, range}
-use Rattle.reads.specs.BitsLaws.{digit_low, mark_all_append}
-use Rattle.reads.specs.MasksLaws.{marked_word}
+use Rattle.reads.proofs.BitsLaws.{digit_low, mark_all_append}
+use Rattle.reads.proofs.MasksLaws.{marked_word}
 use Rattle.bit_matrix.specs.declared.Shape.{Shape}
 use Rattle.bit_matrix_nine.specs.AreaWords.{set_bits, packed, ones, TakenBits, HalfBlack, nine_of}
 

@@ -12,7 +12,7 @@ use lib.Dec.{eqb}
 use lib.ListN.{get_or}
 use lib.Pow.{high}
 use Rattle.reads.specs.Bits.{test_bit, bit_at}
-use Rattle.reads.specs.BitsLaws.{test_zero}
+use Rattle.reads.proofs.BitsLaws.{test_zero}
 use Rattle.bit_matrix.specs.declared.Shape.{Shape}
 use Rattle.bit_matrix.specs.Shape.{row_words}
 use Rattle.bit_matrix.specs.PixelsLaws.{ran_pixel}

@@ -10,7 +10,7 @@ use lib.Bits.{bit_and, bit_or, and_shr, and_mod}
 use lib.Dec.{eqb, ltb}
 use lib.Pow.{field, mod-mod-pow, shl-shr, shr-shr}
 use Rattle.reads.specs.Bits.{test_bit}
-use Rattle.reads.specs.BitsLaws.{test_or}
+use Rattle.reads.proofs.BitsLaws.{test_or}
 use Rattle.crop_padding.specs.NumberLaws.{low_clear, test_shr}
 
 -- ---- a bit of the code's operations

@@ -10,7 +10,7 @@ use Rattle.std.proofs.Math.ListN.{length}
 use Rattle.std.proofs.lemmas.List.{length-replicate}
 use Rattle.reads.specs.Reads.{trace}
 use Rattle.reads.specs.Bits.{bit_at, zeros}
-use Rattle.reads.specs.Demand3.{marked_when_read, non_interference}
+use Rattle.reads.proofs.Demand3.{marked_when_read, non_interference}
 use Rattle.bit_matrix.specs.declared.Shape.{Shape}
 use Rattle.bit_matrix.specs.Shape.{shape_of, size}
 use Rattle.bit_matrix.specs.ShapeLaws.{image_kept}

@@ -5,7 +5,8 @@ use Rattle.std.proofs.Math.Path.{refl}
 use mathlib.Core.List.{[], ◌∷◌, ◌++◌, flat_map}
 use Rattle.std.specs.Float.{binary32}
 use Rattle.std.specs.Float.Ieee.{of_int, to_bits}
-use Rattle.reads.specs.ReadsLaws.{Always, always_done, always_after, always_cond}
+use Rattle.reads.specs.ReadsLaws.{Always}
+use Rattle.reads.proofs.ReadsLaws.{always_done, always_after, always_cond}
 use Rattle.bit_matrix.specs.declared.Shape.{Shape}
 use Rattle.bit_matrix.specs.ShapeClauses.{Inside}
 use Rattle.rxing_result_point.specs.declared.PointU.{PointU}

@@ -5,7 +5,7 @@ use mathlib.Core.Path.{◌≡◌, refl, sym, ap, ◌∙◌}
 use mathlib.Core.List.{List, [], ◌∷◌, ◌++◌, append-nil}
 use lib.Seq.{append_snoc}
 use Rattle.reads.specs.Reads.{Reads, done, ◌>>=◌, value, trace}
-use Rattle.reads.specs.ReadsLaws.{value_bind, trace_bind}
+use Rattle.reads.proofs.ReadsLaws.{value_bind, trace_bind}
 use Rattle.reads.specs.Bits.{bit_at, mark_all}
 use Rattle.reads.specs.Runs.{value_of, marks_of}
 use Rattle.reads.specs.RunsClauses.{Ran}

@@ -1,7 +1,8 @@
 -- Every record that is boxed stays one. Assumes nothing.
 use Rattle.std.specs.Prelude.{suc, Bool, List, [], ◌∷◌, ◌≡◌, refl, length}
 use Rattle.std.proofs.Common.{ap}
-use Rattle.reads.specs.ReadsLaws.{Always, always_done, always_bind, always_after}
+use Rattle.reads.specs.ReadsLaws.{Always}
+use Rattle.reads.proofs.ReadsLaws.{always_done, always_bind, always_after}
 use Rattle.bit_matrix.specs.declared.Shape.{Shape}
 use Rattle.records.specs.Records.{Record}
 use Rattle.detector_boxes.specs.Boxing.{boxed_all}

@@ -4,7 +4,8 @@ use mathlib.Core.List.{List, [], ◌∷◌}
 use Rattle.std.proofs.Common.{◌∙◌}
 use Rattle.std.specs.Float.{binary32}
 use Rattle.std.specs.Float.Ieee.{to_bits}
-use Rattle.reads.specs.ReadsLaws.{Always, always_done, always_bind}
+use Rattle.reads.specs.ReadsLaws.{Always}
+use Rattle.reads.proofs.ReadsLaws.{always_done, always_bind}
 use Rattle.bit_matrix.specs.declared.Shape.{Shape}
 use Rattle.bit_matrix.specs.ShapeClauses.{Inside}
 use Rattle.records.specs.Fields as field

@@ -7,8 +7,9 @@ use Rattle.std.proofs.lemmas.Bool.{false≢true}
 use mathlib.Core.List.{List, [], ◌∷◌, ◌++◌}
 use borrow.Author.Tests.{eqb-false}
 use Rattle.std.proofs.Math.ListN.{replicate, length-replicate}
-use Rattle.reads.specs.ReadsLaws.{On, Same, on_done, on_always, on_bind, on_cond, same_refl, same_after, same_cond}
-use Rattle.reads.specs.BitsLaws.{get_or_zeros}
+use Rattle.reads.specs.ReadsLaws.{On, Same}
+use Rattle.reads.proofs.ReadsLaws.{on_done, on_always, on_bind, on_cond, same_refl, same_after, same_cond}
+use Rattle.reads.proofs.BitsLaws.{get_or_zeros}
 use Rattle.reads.specs.Total.{total}
 use Rattle.records.specs.Fields as field
 use Rattle.records.specs.Records.{Record}

@@ -7,7 +7,8 @@ use mathlib.Core.List.{List, [], ◌∷◌, ◌++◌}
 use borrow.Author.Tests.{ltb-true, ltb-false}
 use Rattle.std.proofs.Math.Dec.{ltb}
 use Rattle.reads.specs.Reads.{Reads, done}
-use Rattle.reads.specs.ReadsLaws.{On, Same, on_done, on_bind, on_cond, same_refl, same_after, same_cond}
+use Rattle.reads.specs.ReadsLaws.{On, Same}
+use Rattle.reads.proofs.ReadsLaws.{on_done, on_bind, on_cond, same_refl, same_after, same_cond}
 use Rattle.records.specs.Records.{Record}
 use Rattle.records.specs.RecordsClauses.{Each}
 use Rattle.bit_matrix.specs.declared.Shape.{Shape}

@@ -5,8 +5,9 @@ use Rattle.std.proofs.Math.Decide.{dec_lt, ℕ_discrete}
 use Rattle.std.proofs.Common.{arith, lt-ltb, le-ltb, get_or-set_same, get_or-set_other}
 use Rattle.std.specs.Prelude.{◌≡◌, refl, Bool, true, false, cond, List, [], ◌∷◌, ltb, length, set, replicate}
 use Rattle.std.proofs.Math.Seq.{set_out}
-use Rattle.reads.specs.ReadsLaws.{Always, Same, always_done, always_bind, always_after, always_cond, same_refl, same_bind, same_after, same_cond}
-use Rattle.reads.specs.BitsLaws.{get_or_zeros}
+use Rattle.reads.specs.ReadsLaws.{Always, Same}
+use Rattle.reads.proofs.ReadsLaws.{always_done, always_bind, always_after, always_cond, same_refl, same_bind, same_after, same_cond}
+use Rattle.reads.proofs.BitsLaws.{get_or_zeros}
 use Rattle.bit_matrix.specs.declared.Shape.{Shape}
 use Rattle.bit_matrix.specs.Pixels.{pixel}
 use Rattle.detector_widths.specs.Buckets.{bump}

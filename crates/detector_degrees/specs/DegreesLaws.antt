@@ -3,7 +3,8 @@ use Rattle.std.specs.Prelude.{◌≡◌, ℕ, zero, suc, ◌+◌, ◌*◌, ◌%�
 use Rattle.std.proofs.Math.Path.{refl, ap₂}
 use Rattle.std.proofs.Common.{arith}
 use Rattle.reads.specs.Reads.{Reads, done, ◌>>=◌}
-use Rattle.reads.specs.ReadsLaws.{Always, always_done, always_after}
+use Rattle.reads.specs.ReadsLaws.{Always}
+use Rattle.reads.proofs.ReadsLaws.{always_done, always_after}
 use Rattle.bit_matrix.specs.declared.Shape.{Shape}
 use Rattle.bit_matrix.specs.declared.Sample.{Sample}
 use Rattle.sines.specs.Sines.{sine_of, cosine_of}

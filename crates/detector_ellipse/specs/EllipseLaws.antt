@@ -9,7 +9,8 @@ use Rattle.std.specs.Float.Ieee.{div, lt, of_bits, of_int}
 use Rattle.ieee_sqrt.specs.Sqrt.{isqrt}
 use Rattle.ieee_sqrt.specs.IsqrtLaws.{isqrt_is, root_at_most}
 use Rattle.reads.specs.Reads.{Reads}
-use Rattle.reads.specs.ReadsLaws.{On, Always, on_done, on_bind, always_done, always_after}
+use Rattle.reads.specs.ReadsLaws.{On, Always}
+use Rattle.reads.proofs.ReadsLaws.{on_done, on_bind, always_done, always_after}
 use Rattle.reads.specs.Bits.{bit_at}
 use Rattle.reads.specs.Runs.{value_of}
 use Rattle.reads.specs.EveryLaws.{every, every_at, same_truth}

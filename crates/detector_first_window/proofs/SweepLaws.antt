@@ -12,7 +12,7 @@ use lib.ListN.{length, get_or}
 use Rattle.reads.specs.Reads.{Reads, done}
 use Rattle.reads.specs.Bits.{mark, mark_all, range}
 use Rattle.reads.specs.RunsClauses.{Resumes}
-use Rattle.reads.specs.RunsLaws.{resumes_step, resumes_then, resumes_else, resumes_through}
+use Rattle.reads.proofs.RunsLaws.{resumes_step, resumes_then, resumes_else, resumes_through}
 use Rattle.bit_matrix.specs.declared.Shape.{Shape}
 use Rattle.bit_matrix.specs.Shape.{size}
 use Rattle.bit_matrix.specs.PixelsLaws.{ran_pixel}

@@ -10,9 +10,9 @@ use lib.ListN.{length, get_or, set, length-set, replicate}
 use lib.Seq.{get_or-set_same}
 use Rattle.reads.specs.Reads.{Reads}
 use Rattle.reads.specs.Bits.{mark, mark_all, range}
-use Rattle.reads.specs.BitsLaws.{length_mark_all, range_join, range_last}
+use Rattle.reads.proofs.BitsLaws.{length_mark_all, range_join, range_last}
 use Rattle.reads.specs.RunsClauses.{Resumes}
-use Rattle.reads.specs.RunsLaws.{ran_done, resumes_start, resumes_end}
+use Rattle.reads.proofs.RunsLaws.{ran_done, resumes_start, resumes_end}
 use Rattle.bit_matrix.specs.declared.Shape.{Shape}
 use Rattle.bit_matrix.specs.Shape.{size}
 use Rattle.bit_matrix.specs.ShapeClauses.{Limits}

@@ -7,7 +7,7 @@ use Rattle.std.proofs.Math.Bool.{not-not}
 use Rattle.std.proofs.Math.ListN.{get_or, get_or-append}
 use Rattle.std.proofs.Math.Seq.{get_or-set_other}
 use Rattle.reads.specs.Total.{total}
-use Rattle.reads.specs.BitsLaws.{get_or_zeros}
+use Rattle.reads.proofs.BitsLaws.{get_or_zeros}
 use Rattle.detector_widths.specs.Buckets.{bump}
 use Rattle.detector_window.specs.Window.{without_first}
 use Rattle.detector_first_window.specs.TotalsLaws.{total_bump, total_bump_before, total_without, total_past, total_from, total_drop}

@@ -11,7 +11,8 @@ use borrow.Author.Tests.{ltb-true, ltb-false, not-true, not-false}
 use Rattle.std.proofs.Math.ListN.{length, length-set}
 use Rattle.std.proofs.Math.Seq.{get_or-set_same}
 use Rattle.reads.specs.Reads.{value}
-use Rattle.reads.specs.ReadsLaws.{On, Same, on_done, on_after, on_cond, same_refl, same_after, same_cond}
+use Rattle.reads.specs.ReadsLaws.{On, Same}
+use Rattle.reads.proofs.ReadsLaws.{on_done, on_after, on_cond, same_refl, same_after, same_cond}
 use Rattle.bit_matrix.specs.declared.Shape.{Shape}
 use Rattle.bit_matrix.specs.Pixels.{pixel}
 use Rattle.detector_widths.specs.Buckets.{bump}

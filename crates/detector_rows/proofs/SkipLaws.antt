@@ -7,9 +7,9 @@ use mathlib.Core.List.{List}
 use lib.ListN.{length}
 use Rattle.reads.specs.Reads.{Reads}
 use Rattle.reads.specs.Bits.{mark, mark_all, range}
-use Rattle.reads.specs.BitsLaws.{length_mark_all, range_last}
+use Rattle.reads.proofs.BitsLaws.{length_mark_all, range_last}
 use Rattle.reads.specs.RunsClauses.{Ran, Resumes}
-use Rattle.reads.specs.RunsLaws.{ran_done, resumes_start, resumes_step, resumes_then, resumes_else, resumes_end, resumes_through}
+use Rattle.reads.proofs.RunsLaws.{ran_done, resumes_start, resumes_step, resumes_then, resumes_else, resumes_end, resumes_through}
 use Rattle.bit_matrix.specs.declared.Shape.{Shape}
 use Rattle.bit_matrix.specs.Shape.{size}
 use Rattle.bit_matrix.specs.PixelsLaws.{ran_pixel}

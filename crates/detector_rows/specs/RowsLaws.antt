@@ -4,7 +4,8 @@ use Prim.Native.Nat.{ℕ, zero, suc, ◌+◌, ◌-◌, ◌^◌, ◌≤◌}
 use Rattle.std.proofs.Common.{arith}
 use Rattle.std.specs.Prelude.{Bool, true, replicate}
 use Rattle.reads.specs.Reads.{Reads}
-use Rattle.reads.specs.ReadsLaws.{On, Always, Same, on_always, on_bind, always_done, always_after, always_cond, same_refl, same_after}
+use Rattle.reads.specs.ReadsLaws.{On, Always, Same}
+use Rattle.reads.proofs.ReadsLaws.{on_always, on_bind, always_done, always_after, always_cond, same_refl, same_after}
 use Rattle.bit_matrix.specs.declared.Shape.{Shape}
 use Rattle.detector_widths.specs.WidthsF32.{valid_widths_f32}
 use Rattle.detector_rows.specs.Rows.{skip_white, next_bullseye_by}

@@ -10,7 +10,7 @@ use Rattle.reads.specs.Reads.{Reads}
 use Rattle.reads.specs.Bits.{bit_at, zeros}
 use Rattle.reads.specs.Runs.{value_of}
 use Rattle.reads.specs.RunsClauses.{Ran}
-use Rattle.reads.specs.RunsLaws.{ran_done, ran_bind, on_ran}
+use Rattle.reads.proofs.RunsLaws.{ran_done, ran_bind, on_ran}
 use Rattle.bit_matrix.specs.declared.Shape.{Shape}
 use Rattle.bit_matrix.specs.ShapeClauses.{Image}
 use Rattle.records.specs.Records.{Record, rows, flat, laid_out}

@@ -5,7 +5,8 @@ use Rattle.std.proofs.Common.{arith, sym, ◌∙◌, length-set}
 use Rattle.reads.specs.Reads.{value}
 use Rattle.reads.specs.Bits.{bit_at}
 use Rattle.reads.specs.Runs.{value_of}
-use Rattle.reads.specs.ReadsLaws.{Always, always_done, always_bind}
+use Rattle.reads.specs.ReadsLaws.{Always}
+use Rattle.reads.proofs.ReadsLaws.{always_done, always_bind}
 use Rattle.bit_matrix.specs.declared.Shape.{Shape}
 use Rattle.bit_matrix.specs.ShapeClauses.{Limits}
 use Rattle.records.specs.Fields as field

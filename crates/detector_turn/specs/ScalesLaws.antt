@@ -6,7 +6,8 @@ use Rattle.std.specs.Float.{nan, binary32}
 use Rattle.std.specs.Float.Ieee.{of_bits, of_int, to_bits, le}
 use Rattle.reads.specs.EveryLaws.{every_at}
 use Rattle.reads.specs.Reads.{Reads, done}
-use Rattle.reads.specs.ReadsLaws.{Always, always_done, always_bind, always_after, always_cond}
+use Rattle.reads.specs.ReadsLaws.{Always}
+use Rattle.reads.proofs.ReadsLaws.{always_done, always_bind, always_after, always_cond}
 use Rattle.bit_matrix.specs.declared.Shape.{Shape}
 use Rattle.bit_matrix.specs.ShapeClauses.{Inside}
 use Rattle.rxing_result_point.specs.declared.PointU.{PointU}

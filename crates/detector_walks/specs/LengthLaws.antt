@@ -12,10 +12,10 @@ use Rattle.std.specs.Float.Ieee.Exact.{HasValue}
 use Rattle.ieee.specs.Sign.{abs}
 use Rattle.ieee.specs.SizeLaws.{apart, apart_zero, zero_apart}
 use Rattle.reads.specs.Reads.{done, ◌>>=◌, value}
-use Rattle.reads.specs.ReadsLaws.{value_bind}
+use Rattle.reads.proofs.ReadsLaws.{value_bind}
 use Rattle.reads.specs.Bits.{bit_at}
 use Rattle.reads.specs.Runs.{value_of}
-use Rattle.reads.specs.RunsLaws.{value_of_bind}
+use Rattle.reads.proofs.RunsLaws.{value_of_bind}
 use Rattle.bit_matrix.specs.declared.Shape.{Shape}
 use Rattle.bit_matrix.specs.ShapeClauses.{Limits, Inside}
 use Rattle.bit_matrix.specs.FlankedClauses.{Flanked}

@@ -17,8 +17,9 @@ use Rattle.rxing_result_point.specs.PointsLaws.{real_value}
 use Rattle.ieee.specs.Sign.{abs}
 use Rattle.reads.specs.Reads.{Reads, done, value}
 use Rattle.reads.specs.Runs.{value_of}
-use Rattle.reads.specs.ReadsLaws.{Always, always_done, always_after, always_cond}
-use Rattle.reads.specs.RunsLaws.{value_of_bind}
+use Rattle.reads.specs.ReadsLaws.{Always}
+use Rattle.reads.proofs.ReadsLaws.{always_done, always_after, always_cond}
+use Rattle.reads.proofs.RunsLaws.{value_of_bind}
 use Rattle.bit_matrix.specs.declared.Shape.{Shape}
 use Rattle.bit_matrix.specs.Shape.{size}
 use Rattle.bit_matrix.specs.ShapeClauses.{Limits, Inside}

@@ -12,10 +12,10 @@ use Rattle.std.proofs.Math.Path.{refl, sym, ap, ap₂}
 use mathlib.Core.List.Memᴰ
 use mathlib.Core.List.{List, [], ◌∷◌, ◌++◌, Memᴰ}
 use Rattle.reads.specs.Reads.{Reads, done, read, ◌>>=◌, value, trace}
-use Rattle.reads.specs.ReadsLaws.{value_bind, trace_bind}
+use Rattle.reads.proofs.ReadsLaws.{value_bind, trace_bind}
 use Rattle.reads.specs.Bits.{bit_at, mark_all, range}
-use Rattle.reads.specs.BitsLaws.{mark_all_append, in_range}
-use Rattle.reads.specs.OrderLaws.{range_again}
+use Rattle.reads.proofs.BitsLaws.{mark_all_append, in_range}
+use Rattle.reads.proofs.OrderLaws.{range_again}
 use Rattle.reads.specs.Runs.{marks_of}
 use Rattle.reads.specs.RunsClauses.{Ran}
 use Rattle.bit_matrix.specs.declared.Shape.{Shape}

@@ -13,7 +13,7 @@ use Rattle.std.proofs.Common.{sym, ◌∙◌}
 use mathlib.Core.List.{List, [], ◌∷◌, ◌++◌, map, map-append, append_assoc}
 use Rattle.std.proofs.Math.ListN.{length}
 use Rattle.reads.specs.Bits.{range}
-use Rattle.reads.specs.BitsLaws.{range_split}
+use Rattle.reads.proofs.BitsLaws.{range_split}
 use Rattle.bit_runs.specs.BitRuns.{FirstBlack}
 use Rattle.row_runs.specs.RowRuns.{ColourRun, put_before, one_column, colour_runs, columns, from_first_black, runs_from_black, run_at}
 

@@ -10,9 +10,9 @@ use Rattle.std.proofs.Common.{◌∙◌}
 use mathlib.Core.List.{List, [], ◌++◌}
 use Rattle.std.proofs.Math.ListN.{length}
 use Rattle.reads.specs.Reads.{done, value}
-use Rattle.reads.specs.ReadsLaws.{value_bind}
+use Rattle.reads.proofs.ReadsLaws.{value_bind}
 use Rattle.reads.specs.Bits.{bit_at, range}
-use Rattle.reads.specs.BitsLaws.{range_split}
+use Rattle.reads.proofs.BitsLaws.{range_split}
 use Rattle.bit_matrix.specs.declared.Shape.{Shape}
 use Rattle.reads.specs.Runs.{value_of}
 use Rattle.reads.specs.RunsClauses.{Ran}

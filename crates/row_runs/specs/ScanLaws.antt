@@ -12,7 +12,7 @@ use Rattle.std.proofs.Math.ListN.{length, length-append}
 use Rattle.std.proofs.lemmas.List.{length-map, set_at, get_or_at}
 use Rattle.std.proofs.Math.Seq.{append_snoc, get_or-append-add}
 use Rattle.reads.specs.Reads.{Reads, done, value}
-use Rattle.reads.specs.ReadsLaws.{value_bind}
+use Rattle.reads.proofs.ReadsLaws.{value_bind}
 use Rattle.reads.specs.Bits.{range}
 use Rattle.bit_matrix.specs.declared.Shape.{Shape}
 use Rattle.bit_matrix.specs.Pixels.{pixel}

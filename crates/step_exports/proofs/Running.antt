@@ -9,7 +9,7 @@ use lib.Ieee.{binary32, to_bits}
 use lib.ListN.{length}
 use Rattle.reads.specs.Reads.{Reads}
 use Rattle.reads.specs.RunsClauses.{Ran}
-use Rattle.reads.specs.RunsLaws.{ran_bind, ran_is}
+use Rattle.reads.proofs.RunsLaws.{ran_bind, ran_is}
 use Rattle.bit_matrix.specs.declared.Sample.{Sample}
 use Rattle.bit_matrix.specs.declared.Shape.{Shape}
 use Rattle.bit_matrix.specs.Shape.{shape_of}

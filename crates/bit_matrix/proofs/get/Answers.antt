@@ -14,7 +14,7 @@ use lib.Dec.{eqb, lit<}
 use lib.Pow.{shl_exact}
 use Rattle.reads.specs.Bits.{test_bit, set_bit, bit_at, mark}
 use Rattle.reads.specs.RunsClauses.{Ran}
-use Rattle.reads.specs.RunsLaws.{ran_done, ran_read, ran_then, ran_else}
+use Rattle.reads.proofs.RunsLaws.{ran_done, ran_read, ran_then, ran_else}
 use Rattle.bit_matrix.specs.declared.Shape.{Shape}
 use Rattle.bit_matrix.specs.Shape.{size}
 use Rattle.bit_matrix.specs.Pixels.{offset, pixel}

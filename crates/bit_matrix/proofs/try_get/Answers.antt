@@ -1,5 +1,5 @@
 -- `bit_matrix::try_get` meets its contract, by the tests on the way to each return and the call's run.
-use Rattle.reads.specs.RunsLaws.{runs}
+use Rattle.reads.proofs.RunsLaws.{runs}
 use Rattle.bit_matrix.specs.Pixels.{try_get}
 use Rattle.bit_matrix.proofs.try_get.Goals as goal
 

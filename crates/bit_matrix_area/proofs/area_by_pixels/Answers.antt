@@ -7,7 +7,7 @@ use native.Mathlib.Omega.{arith}
 use lib.Dec.{leb}
 use lib.ListN.{length}
 use Rattle.reads.specs.RunsClauses.{Ran}
-use Rattle.reads.specs.RunsLaws.{ran_bind, ran_done}
+use Rattle.reads.proofs.RunsLaws.{ran_bind, ran_done}
 use Rattle.bit_matrix.specs.declared.Shape.{Shape}
 use Rattle.bit_matrix_area.specs.Area.{box, count_black, try_get_area}
 use Rattle.bit_matrix_area.proofs.AreaLaws.{length_box, ran_few}

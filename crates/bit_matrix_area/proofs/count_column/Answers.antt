@@ -7,9 +7,9 @@ use mathlib.Core.List.{List}
 use native.Mathlib.Omega.{arith}
 use lib.ListN.{length}
 use Rattle.reads.specs.Bits.{digit, range}
-use Rattle.reads.specs.BitsLaws.{digit_low}
+use Rattle.reads.proofs.BitsLaws.{digit_low}
 use Rattle.reads.specs.RunsClauses.{Ran}
-use Rattle.reads.specs.RunsLaws.{ran_done, resumes_start, resumes_step, resumes_end}
+use Rattle.reads.proofs.RunsLaws.{ran_done, resumes_start, resumes_step, resumes_end}
 use Rattle.bit_matrix.specs.declared.Shape.{Shape}
 use Rattle.bit_matrix.specs.Pixels.{try_get}
 use Rattle.bit_matrix_area.specs.Area.{column, count_black}

@@ -9,7 +9,7 @@ use lib.Arith.{digits_lt}
 use lib.Bits.{bit_or}
 use lib.ListN.{length, get_or}
 use Rattle.reads.specs.Bits.{test_bit}
-use Rattle.reads.specs.BitsLaws.{test_or, test_zero}
+use Rattle.reads.proofs.BitsLaws.{test_or, test_zero}
 use Rattle.bit_matrix.specs.declared.Shape.{Shape}
 use Rattle.crop_padding.specs.Below.{any_below}
 use Rattle.crop_padding.specs.AnyLaws.{any_until, none_below}

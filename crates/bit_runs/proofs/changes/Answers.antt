@@ -10,7 +10,7 @@ use lib.Dec.{eqb}
 use lib.ListN.{get_or}
 use lib.Pow.{field, mod-mod-pow, pow-lt, shl-shr, shr-shr}
 use Rattle.reads.specs.Bits.{digit, test_bit}
-use Rattle.reads.specs.BitsLaws.{digit_low}
+use Rattle.reads.proofs.BitsLaws.{digit_low}
 use Rattle.bit_runs.specs.BitRuns.{row_bit, Changes}
 use Rattle.bit_runs.proofs.WordLaws.{row_bit_lem}
 use Rattle.bit_runs.proofs.changes.Goals as goal

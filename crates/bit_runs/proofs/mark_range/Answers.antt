@@ -6,9 +6,10 @@ use mathlib.Core.List.{List}
 use native.Mathlib.Omega.{arith}
 use lib.Bits.{bit_or}
 use lib.ListN.{length, get_or, set}
-use Rattle.reads.specs.MasksLaws.{mask, marked_word, marked_past}
+use Rattle.reads.specs.MasksLaws.{mask}
+use Rattle.reads.proofs.MasksLaws.{marked_word, marked_past}
 use Rattle.reads.specs.Bits.{mark_all, range}
-use Rattle.reads.specs.BitsLaws.{length_mark_all, range_join}
+use Rattle.reads.proofs.BitsLaws.{length_mark_all, range_join}
 use Rattle.bit_runs.proofs.mark_range.Invariants.{Marking}
 use Rattle.bit_runs.proofs.mark_range.Goals as goal
 

@@ -9,7 +9,7 @@ use borrow.Author.Rules.{rules}
 use borrow.Author.Tests.{not-true, not-false}
 use Rattle.reads.specs.Bits.{bit_at}
 use Rattle.reads.specs.RunsClauses.{Ran}
-use Rattle.reads.specs.RunsLaws.{ran_bind, ran_is, ran_then, ran_else}
+use Rattle.reads.proofs.RunsLaws.{ran_bind, ran_is, ran_then, ran_else}
 use Rattle.bit_matrix.specs.declared.Shape.{Shape}
 use Rattle.bit_matrix.specs.FlankedClauses.{Flanked}
 use Rattle.detector_walks.specs.WalksLaws.{lent_on}

@@ -5,7 +5,7 @@ use mathlib.Core.Bool.{Bool}
 use mathlib.Core.List.{List}
 use lib.Ieee.{Float}
 use Rattle.reads.specs.RunsClauses.{Ran}
-use Rattle.reads.specs.RunsLaws.{ran_bind, ran_is}
+use Rattle.reads.proofs.RunsLaws.{ran_bind, ran_is}
 use Rattle.bit_matrix.specs.declared.Shape.{Shape}
 use Rattle.bit_matrix.specs.ShapeClauses.{Image}
 use Rattle.sines.specs.Sines.{sines}

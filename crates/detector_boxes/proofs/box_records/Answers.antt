@@ -11,7 +11,7 @@ use borrow.Author.Rules.{rules}
 use lib.ListN.{length, get_or, take, drop, set}
 use lib.Seq.{take-suc-set, drop-set-lt, drop-cons, drop-drop, drop-length, take_all, get_or-drop}
 use Rattle.reads.specs.RunsClauses.{Ran}
-use Rattle.reads.specs.RunsLaws.{ran_done, resumes_start, resumes_step, resumes_end}
+use Rattle.reads.proofs.RunsLaws.{ran_done, resumes_start, resumes_step, resumes_end}
 use Rattle.bit_matrix.specs.declared.Shape.{Shape}
 use Rattle.records.specs.Records.{Record, rows}
 use Rattle.records.specs.RecordsClauses.{get, put, Became}

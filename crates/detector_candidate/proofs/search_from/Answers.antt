@@ -8,7 +8,7 @@ use borrow.Author.Rules.{rules}
 use borrow.Author.Tests.{not-true, not-false}
 use Rattle.reads.specs.Bits.{bit_at}
 use Rattle.reads.specs.RunsClauses.{Ran}
-use Rattle.reads.specs.RunsLaws.{ran_is, ran_bind, ran_then, ran_else, on_ran}
+use Rattle.reads.proofs.RunsLaws.{ran_is, ran_bind, ran_then, ran_else, on_ran}
 use Rattle.bit_matrix.specs.declared.Shape.{Shape}
 use Rattle.bit_matrix.specs.ShapeClauses.{Limits}
 use Rattle.detector_rows.specs.RowsClauses.{next_bullseye}

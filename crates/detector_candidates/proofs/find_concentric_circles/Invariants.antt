@@ -9,10 +9,11 @@ use borrow.Author.Tests.{lt-ltb, le-ltb}
 use lib.Dec.{ltb}
 use lib.ListN.{length, drop}
 use Rattle.reads.specs.Reads.{Reads, done}
-use Rattle.reads.specs.ReadsLaws.{Always, always_done, always_after, always_cond}
+use Rattle.reads.specs.ReadsLaws.{Always}
+use Rattle.reads.proofs.ReadsLaws.{always_done, always_after, always_cond}
 use Rattle.reads.specs.Runs.{value_of}
 use Rattle.reads.specs.RunsClauses.{Ran, Resumes}
-use Rattle.reads.specs.RunsLaws.{ran_done, always_ran, resumes_step, resumes_then, resumes_else, resumes_end}
+use Rattle.reads.proofs.RunsLaws.{ran_done, always_ran, resumes_step, resumes_then, resumes_else, resumes_end}
 use Rattle.records.specs.Records.{Record, rows}
 use Rattle.records.specs.RecordsLaws.{length_rows}
 use Rattle.bit_matrix.specs.declared.Shape.{Shape}

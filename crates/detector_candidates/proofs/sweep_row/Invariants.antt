@@ -12,7 +12,7 @@ use lib.ListN.{length, drop}
 use Rattle.reads.specs.Reads.{Reads, done}
 use Rattle.reads.specs.Bits.{bit_at}
 use Rattle.reads.specs.RunsClauses.{Ran, Resumes}
-use Rattle.reads.specs.RunsLaws.{ran_done, on_ran, resumes_step, resumes_then, resumes_else, resumes_end}
+use Rattle.reads.proofs.RunsLaws.{ran_done, on_ran, resumes_step, resumes_then, resumes_else, resumes_end}
 use Rattle.records.specs.Records.{Record, rows}
 use Rattle.records.specs.RecordsLaws.{length_rows}
 use Rattle.bit_matrix.specs.declared.Shape.{Shape}

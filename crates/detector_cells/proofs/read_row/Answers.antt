@@ -9,7 +9,7 @@ use mathlib.Core.Path.{◌≡◌, refl, ap, ap₂, ◌∙◌}
 use lib.Bits.{bit_or, or_shifted_r}
 use lib.Pow.{shl_exact}
 use Rattle.reads.specs.Bits.{digit}
-use Rattle.reads.specs.BitsLaws.{digit_low}
+use Rattle.reads.proofs.BitsLaws.{digit_low}
 use Rattle.bit_matrix.specs.declared.Shape.{Shape}
 use Rattle.bit_matrix.specs.ShapeClauses.{Limits, Inside}
 use Rattle.crop_padding.specs.Below.{number}

@@ -1,5 +1,5 @@
 -- `detector_circle::calculate_high_accuracy_center` meets its contract: what the call ensures, with the radius kept.
-use Rattle.reads.specs.RunsLaws.{ran_bind, ran_done}
+use Rattle.reads.proofs.RunsLaws.{ran_bind, ran_done}
 use Rattle.detector_circle.specs.Circle.{corrected_circle}
 use Rattle.detector_circle.proofs.calculate_high_accuracy_center.Goals as goal
 

@@ -9,9 +9,9 @@ use borrow.Author.Rules.{rules}
 use borrow.Author.Tests.{ltb-true, ltb-false, lt-ltb, le-ltb}
 use lib.Dec.{ltb}
 use lib.ListN.{length, set, replicate, length-set}
-use Rattle.reads.specs.BitsLaws.{get_or_zeros}
+use Rattle.reads.proofs.BitsLaws.{get_or_zeros}
 use Rattle.reads.specs.RunsClauses.{Ran}
-use Rattle.reads.specs.RunsLaws.{ran_done, resumes_start, resumes_step, resumes_then, resumes_else, resumes_end}
+use Rattle.reads.proofs.RunsLaws.{ran_done, resumes_start, resumes_step, resumes_then, resumes_else, resumes_end}
 use Rattle.bit_matrix.specs.declared.Shape.{Shape}
 use Rattle.bit_matrix.specs.ShapeClauses.{Image}
 use Rattle.bit_matrix.specs.ShapeLaws.{image_kept}

@@ -1,5 +1,5 @@
 -- `detector_columns::verify_bullseye_vertical` meets its contract: the calls' runs, by the tests on the way to each return.
-use Rattle.reads.specs.RunsLaws.{runs}
+use Rattle.reads.proofs.RunsLaws.{runs}
 use Rattle.detector_columns.specs.Columns.{verify_bullseye_vertical_by}
 use Rattle.detector_columns.proofs.verify_bullseye_vertical.Goals as goal
 

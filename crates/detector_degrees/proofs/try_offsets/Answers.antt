@@ -3,7 +3,7 @@
 use Rattle.std.proofs.Common.{◌≡◌, ℕ, suc, ◌+◌, ◌-◌, ◌*◌, ◌<◌, ◌≤◌, List, length, ◌∙◌, arith}
 use Rattle.reads.specs.Reads.{Reads}
 use Rattle.reads.specs.RunsClauses.{Ran}
-use Rattle.reads.specs.RunsLaws.{ran_done, resumes_start, resumes_step, resumes_end}
+use Rattle.reads.proofs.RunsLaws.{ran_done, resumes_start, resumes_step, resumes_end}
 use Rattle.bit_matrix.specs.declared.Sample.{Sample}
 use Rattle.sines.specs.Sines.{angle_of}
 use Rattle.sines.specs.declared.Angle.{Angle}

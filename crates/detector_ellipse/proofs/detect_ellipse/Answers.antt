@@ -3,7 +3,7 @@ use Rattle.std.proofs.Common.{◌≡◌, ℕ, ◌<◌, Bool, List}
 use lib.Ieee.{Float}
 use Rattle.reads.specs.Bits.{bit_at}
 use Rattle.reads.specs.RunsClauses.{Ran}
-use Rattle.reads.specs.RunsLaws.{ran_bind, ran_is, on_ran}
+use Rattle.reads.proofs.RunsLaws.{ran_bind, ran_is, on_ran}
 use Rattle.bit_matrix.specs.declared.Shape.{Shape}
 use Rattle.bit_matrix.specs.FlankedClauses.{Flanked}
 use Rattle.rxing_result_point.specs.declared.PointU.{PointU}

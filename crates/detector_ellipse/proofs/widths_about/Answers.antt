@@ -3,7 +3,7 @@
 use Rattle.std.proofs.Common.{◌≡◌, ℕ, suc, ◌+◌, ◌-◌, ◌*◌, ◌<◌, ◌≤◌, List, [], ◌∷◌, ◌++◌, length, take, set, ap, ◌∙◌, add-one, arith, length-set, take_all, take-suc-set, rules}
 use lib.Ieee.{Float}
 use Rattle.reads.specs.RunsClauses.{Ran}
-use Rattle.reads.specs.RunsLaws.{ran_done, resumes_start, resumes_step, resumes_end}
+use Rattle.reads.proofs.RunsLaws.{ran_done, resumes_start, resumes_step, resumes_end}
 use Rattle.bit_matrix.specs.declared.Shape.{Shape}
 use Rattle.rxing_result_point.specs.declared.PointU.{PointU}
 use Rattle.detector_walks.specs.declared.Width.{Width}

@@ -4,13 +4,13 @@ use mathlib.Core.Path.{◌≡◌, ◌∙◌}
 use mathlib.Core.List.{List}
 use native.Mathlib.Omega.{arith}
 use Rattle.reads.specs.Bits.{mark_all, range}
-use Rattle.reads.specs.BitsLaws.{length_mark_all}
+use Rattle.reads.proofs.BitsLaws.{length_mark_all}
 use Rattle.reads.specs.RunsClauses.{Ran}
-use Rattle.reads.specs.RunsLaws.{ran_bind}
+use Rattle.reads.proofs.RunsLaws.{ran_bind}
 use Rattle.bit_matrix.specs.declared.Shape.{Shape}
 use Rattle.bit_matrix.specs.ShapeClauses.{Image}
 use Rattle.bit_runs.specs.BitRuns.{row_bit, FirstBlack}
-use Rattle.reads.specs.OrderLaws.{range_again}
+use Rattle.reads.proofs.OrderLaws.{range_again}
 use Rattle.detector_rows.specs.Rows.{next_bullseye_by}
 use Rattle.detector_rows.specs.RowsClauses.{next_bullseye}
 use Rattle.detector_first_window.specs.FirstWindowClauses.{read_to, Swept}

@@ -8,9 +8,10 @@ use native.Mathlib.Omega.{arith}
 use lib.Dec.{T}
 use lib.Ieee.{Float}
 use lib.ListN.{length}
-use Rattle.reads.specs.ReadsLaws.{Always, always_done, always_after}
+use Rattle.reads.specs.ReadsLaws.{Always}
+use Rattle.reads.proofs.ReadsLaws.{always_done, always_after}
 use Rattle.reads.specs.RunsClauses.{Ran}
-use Rattle.reads.specs.RunsLaws.{ran_is, ran_length, always_ran, resumes_start, resumes_step, resumes_then, resumes_else, resumes_end}
+use Rattle.reads.proofs.RunsLaws.{ran_is, ran_length, always_ran, resumes_start, resumes_step, resumes_then, resumes_else, resumes_end}
 use Rattle.bit_matrix.specs.declared.Shape.{Shape}
 use Rattle.detector_walks.specs.WalksLaws.{lent_on}
 use Rattle.detector_size.specs.SizeClauses.{is_scale}

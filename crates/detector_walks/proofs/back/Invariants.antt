@@ -10,7 +10,7 @@ use native.Mathlib.Omega.{arith}
 use lib.ListN.{length}
 use Rattle.reads.specs.Reads.{done}
 use Rattle.reads.specs.RunsClauses.{Ran, Resumes}
-use Rattle.reads.specs.RunsLaws.{ran_done, ran_is, resumes_start, resumes_step, resumes_then, resumes_else, resumes_end}
+use Rattle.reads.proofs.RunsLaws.{ran_done, ran_is, resumes_start, resumes_step, resumes_then, resumes_else, resumes_end}
 use Rattle.bit_matrix.specs.declared.Shape.{Shape}
 use Rattle.sines.specs.declared.Angle.{Angle}
 use Rattle.rxing_result_point.specs.declared.PointU.{PointU}

@@ -6,7 +6,7 @@ use mathlib.Core.List.{List}
 use mathlib.Core.Path.{◌≡◌, subst⁻¹}
 use lib.Ieee.{Float}
 use Rattle.reads.specs.RunsClauses.{Ran}
-use Rattle.reads.specs.RunsLaws.{ran_bind, ran_is, always_ran}
+use Rattle.reads.proofs.RunsLaws.{ran_bind, ran_is, always_ran}
 use Rattle.bit_matrix.specs.declared.Shape.{Shape}
 use Rattle.sines.specs.declared.Angle.{Angle}
 use Rattle.sines.specs.Sines.{angle_of}

@@ -1,5 +1,5 @@
 -- `detector_walks::is_white` meets its contract, by its test and the run of the call.
-use Rattle.reads.specs.RunsLaws.{runs}
+use Rattle.reads.proofs.RunsLaws.{runs}
 use Rattle.detector_walks.specs.Walks.{white_pixel}
 use Rattle.detector_walks.proofs.is_white.Goals as goal
 

@@ -5,9 +5,10 @@ use Rattle.std.proofs.Common.{arith, sym, ap, ◌∙◌, subst, lt-ltb, le-ltb, 
 use Rattle.std.proofs.Math.Path.{refl, subst⁻¹}
 use Rattle.std.proofs.lemmas.Bool.{lt-leb}
 use Rattle.reads.specs.Reads.{Reads, done, read, ◌>>=◌, value, trace}
-use Rattle.reads.specs.ReadsLaws.{On, Always, on_always, value_bind, trace_bind}
+use Rattle.reads.specs.ReadsLaws.{On, Always}
+use Rattle.reads.proofs.ReadsLaws.{on_always, value_bind, trace_bind}
 use Rattle.reads.specs.Bits.{bit_at, mark, mark_all, range}
-use Rattle.reads.specs.BitsLaws.{length_mark_all, mark_all_append, range_last}
+use Rattle.reads.proofs.BitsLaws.{length_mark_all, mark_all_append, range_last}
 use Rattle.reads.specs.Runs.{value_of, marks_of}
 use Rattle.reads.specs.RunsClauses.{Ran, Resumes}
 

@@ -9,7 +9,7 @@ use Rattle.std.specs.Int.Bits.{bit_or, or_step, or_self}
 use Rattle.std.proofs.lemmas.Nat.{or_comm}
 use Rattle.std.proofs.lemmas.List.{set_comm}
 use Rattle.reads.specs.Bits.{set_bit, mark, mark_all, range}
-use Rattle.reads.specs.BitsLaws.{length_mark, mark_past, mark_all_append, range_join, range_last}
+use Rattle.reads.proofs.BitsLaws.{length_mark, mark_past, mark_all_append, range_join, range_last}
 
 -- ---- one word
 

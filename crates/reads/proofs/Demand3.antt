@@ -4,9 +4,9 @@ use Rattle.std.proofs.Math.Decide.{dec_lt}
 use Rattle.std.proofs.Common.{arith, sym, ap, ◌∙◌}
 use mathlib.Core.List.{List, Memᴰ}
 use Rattle.reads.specs.Reads.{Reads, value, trace}
-use Rattle.reads.specs.ReadsLaws.{same_run}
+use Rattle.reads.proofs.ReadsLaws.{same_run}
 use Rattle.reads.specs.Bits.{bit_at, mark_all, zeros}
-use Rattle.reads.specs.BitsLaws.{bit_past, marked_exactly}
+use Rattle.reads.proofs.BitsLaws.{bit_past, marked_exactly}
 use Rattle.reads.specs.Runs.{value_of, marks_of}
 
 -- a stored bit is marked exactly when the program reads it
