@@ -7,7 +7,7 @@ use Rattle.text.proofs.put_decimal.Goals as goal
 pub put-requires : goal.put-requires
 put-requires c =
     let made = c.decimal-count.ensures in
-    omega (arith, made.in_bounds.0, decimal_places c.args.n (omega arith) made.len)
+    omega (arith, made.in_bounds.0, decimal_places _ (omega arith) made.len)
 
 pub returns : goal.returns
 returns c =

@@ -1,13 +1,13 @@
 -- `text::put_hex` meets its contract: the library's fewest digits, and no fewer than eight, are eight.
 use native.Mathlib.Omega.{arith}
 use Rattle.text.specs.TextLaws.{puts_as}
-use Rattle.text.proofs.Numbers.{hex_text, hex_places}
+use Rattle.text.proofs.Numbers.{hex_text, hex_places, hex_few}
 use Rattle.text.proofs.put_hex.Goals as goal
 
 pub put-requires : goal.put-requires
 put-requires c =
     let made = c.hex-count.ensures in
-    omega (arith, made.in_bounds.0, hex_places c.args.n (omega arith) made.len)
+    omega (arith, made.in_bounds.0, hex_few _ (omega arith) (omega arith) made.len)
 
 pub returns : goal.returns
 returns c =
