@@ -1,14 +1,27 @@
 // Reads a crop on standard input, searches it with room for 400 records, and prints the line of the report and one for each kept record.
 #![tactic(auto)]
 
-ghost use Rattle.std.specs.Prelude.{◌≡◌, List, ℕ, ◌≤◌, length};
+ghost use Rattle.std.specs.Prelude.{◌≡◌, List, ℕ, OnOk, IfSome, ◌≤◌, length};
+ghost use Rattle.std.specs.Io.KnownBytes.{Appends};
 ghost use Rattle.bit_matrix.specs.Shape.{row_words};
 ghost use Rattle.crop.specs.CropClauses.{Checks};
 ghost use Rattle.text.specs.Text.{Puts};
 ghost use Rattle.find.specs.Find.{lent_words, printed};
 
 use crop::Checked;
-use libc::{STDERR_FILENO, STDIN_FILENO, STDOUT_FILENO};
+use std::io;
+use std::io::{ErrorKind, Read, Write};
+use std::process::ExitCode;
+
+// The status that a shell gives for a program that a closed pipe has ended by its signal.
+const CLOSED_PIPE: u8 = 141;
+
+// What could not be done: reading the input, or writing what is printed.
+#[derive(Drop)]
+enum Failure {
+    Input(io::Error),
+    Output(io::Error),
+}
 
 // The words to lend for a file that was checked: those of its image, or none where the file is refused.
 fn lent_words(checked: Checked) -> usize
@@ -46,28 +59,44 @@ fn put_lines(file: &[u8], text: &mut [u8]) -> usize
     )
 }
 
-// Whether standard input has ended: the read after its last byte gives none, where one that fails gives a negative number.
-fn has_ended() -> bool {
-    let mut byte = [0u8; 1];
-    libc::read(STDIN_FILENO, &mut byte) == 0
-}
-
-// What could not be done, on standard error: a program has no exit status.
-fn complain(line: &[u8]) {
-    io::write_all(STDERR_FILENO, line);
-}
-
-// Of a longer input 65,536 bytes are read: no accepted crop has more than 64,004, and the rest does not change what is printed.
-fn main() {
-    let mut input = io::large_buffer();
-    let n = io::read_full(STDIN_FILENO, &mut input);
-    if n < 65536 && !has_ended() {
-        complain(b"find: standard input cannot be read\n");
-        return;
-    }
+// Reads an input and writes all that is printed of it. Of a longer input 65,536 bytes are read: no accepted crop has more than 64,004, and the rest does not
+// change what is printed.
+fn find<R: Read, W: Write>(reader: &mut R, writer: &mut W) -> Result<(), Failure>
+    ensures { OnOk result (IfSome (R.remaining reader.old)
+        (λ input. Appends (W.contents writer.old) (W.contents writer.new) (printed input))) }
+{
+    let mut input = [0u8; 65536];
+    let n = match input::read_full(reader, &mut input) {
+        Ok(n) => n,
+        Err(e) => return Err(Failure::Input(e)),
+    };
     let mut text = [0u8; 80080];
     let end = put_lines(&input[..n], &mut text);
-    if !io::write_all(STDOUT_FILENO, &text[..end]) {
-        complain(b"find: standard output cannot be written\n");
+    match writer.write_all(&text[..end]) {
+        Ok(()) => Ok(()),
+        Err(e) => Err(Failure::Output(e)),
+    }
+}
+
+// What could not be done, on standard error. Where that cannot be written either, nothing is left to tell it on.
+fn complain(rt: &impl Eprint, line: &str) {
+    let _ = rt.eprintln(line);
+}
+
+// What was told on standard error does not change the status.
+fn main(rt: HostRuntime) -> ExitCode {
+    match find(&mut rt.stdin(), &mut rt.stdout()) {
+        Ok(()) => ExitCode::SUCCESS,
+        Err(Failure::Input(_)) => {
+            complain(&rt, "find: standard input cannot be read");
+            ExitCode::SUCCESS
+        }
+        Err(Failure::Output(e)) => {
+            if e.kind() == ErrorKind::BrokenPipe {
+                return ExitCode::from(CLOSED_PIPE);
+            }
+            complain(&rt, "find: standard output cannot be written");
+            ExitCode::SUCCESS
+        }
     }
 }

@@ -15,7 +15,7 @@ use crate::pack::{
     size_of, vector_at,
 };
 use detector::Report;
-use libc::{STDIN_FILENO, STDOUT_FILENO};
+use std::io;
 
 // How many vectors there were, how many of them wrong, and whether they fill the pack.
 #[derive(Clone, Copy)]
@@ -126,19 +126,19 @@ fn is_right(pack: &[u8], at: usize, vector: Vector) -> bool
 }
 
 // Writes the name of the vector at `at`: 28 bytes, padded with zeros.
-fn print_wrong(pack: &[u8], at: usize)
+fn print_wrong(rt: &impl Print, pack: &[u8], at: usize) -> io::Result<()>
     requires { at + 28 ≤ length pack.now }
 {
     let mut end = at;
     while end < at + 28 && byte(pack, end) != 0 {
         end += 1;
     }
-    io::write_all(STDOUT_FILENO, b"wrong: ");
-    io::write_all(STDOUT_FILENO, &pack[at..end]);
-    io::write_all(STDOUT_FILENO, b"\n");
+    rt.write_all(b"wrong: ")?;
+    rt.write_all(&pack[at..end])?;
+    rt.write_all(b"\n")
 }
 
-fn replay(pack: &[u8]) -> Counts {
+fn replay(rt: &impl Print, pack: &[u8]) -> io::Result<Counts> {
     let mut vectors = 0u64;
     let mut wrong = 0u64;
     let mut at = 0usize;
@@ -146,15 +146,15 @@ fn replay(pack: &[u8]) -> Counts {
         let vector = vector_at(pack, at);
         let size = size_of(vector);
         if pack.len() - at < size {
-            return Counts {
+            return Ok(Counts {
                 vectors,
                 wrong,
                 whole: false,
-            };
+            });
         }
         let right = is_right(pack, at, vector);
         if !right {
-            print_wrong(pack, at);
+            print_wrong(rt, pack, at)?;
         }
         at += size;
         vectors += 1;
@@ -162,11 +162,11 @@ fn replay(pack: &[u8]) -> Counts {
             wrong += 1;
         }
     }
-    Counts {
+    Ok(Counts {
         vectors,
         wrong,
         whole: at == pack.len(),
-    }
+    })
 }
 
 // Room for a pack.
@@ -176,15 +176,13 @@ fn space() -> [u8; 2097152]
     [0; 2097152]
 }
 
-fn main() {
-    let mut input = space();
-    let n = io::read_full(STDIN_FILENO, &mut input);
-    let counts = replay(&input[..n]);
+fn main(rt: HostRuntime) -> io::Result<()> {
+    let mut pack = space();
+    let n = input::read_full(&mut rt.stdin(), &mut pack)?;
+    let counts = replay(&rt, &pack[..n])?;
     if !counts.whole || n == 2097152 {
-        io::write_all(STDOUT_FILENO, b"the pack is cut off\n");
+        println!(rt; "the pack is cut off")?;
     }
-    io::print_decimal(STDOUT_FILENO, counts.vectors);
-    io::write_all(STDOUT_FILENO, b" vectors, ");
-    io::print_decimal(STDOUT_FILENO, counts.wrong);
-    io::write_all(STDOUT_FILENO, b" wrong\n");
+    let (vectors, wrong) = (counts.vectors, counts.wrong);
+    println!(rt; "{vectors} vectors, {wrong} wrong")
 }

@@ -5,7 +5,7 @@
 
 ghost use Rattle.std.specs.Prelude.{◌+◌, ◌≤◌, length};
 
-use libc::{STDIN_FILENO, STDOUT_FILENO};
+use std::io;
 
 // The bytes of a line.
 const WIDTH: usize = 34;
@@ -33,40 +33,36 @@ fn number(text: &[u8], at: usize) -> u64
 }
 
 // Whether the root of the line at `at` comes out as the line has it. If not, writes the line's pattern.
-fn is_right(text: &[u8], at: usize) -> bool
+fn is_right(rt: &impl Print, text: &[u8], at: usize) -> io::Result<bool>
     requires { at + 34 ≤ length text.now }
 {
     let pattern = number(text, at);
     let root = ieee_sqrt::sqrt_f64(ieee::f64_of_bits(pattern));
     if ieee::bits_of_f64(root) == number(text, at + 17) {
-        return true;
+        return Ok(true);
     }
-    io::write_all(STDOUT_FILENO, b"wrong: ");
-    io::print_hex(STDOUT_FILENO, pattern, 16);
-    io::write_all(STDOUT_FILENO, b"\n");
-    false
+    println!(rt; "wrong: {pattern:016x}")?;
+    Ok(false)
 }
 
 // How many of a text's whole lines came out wrong.
-fn count_wrong(text: &[u8]) -> u64 {
+fn count_wrong(rt: &impl Print, text: &[u8]) -> io::Result<u64> {
     let mut wrong = 0u64;
     let mut at = 0usize;
     while WIDTH <= text.len() - at {
-        let right = is_right(text, at);
+        let right = is_right(rt, text, at)?;
         at += WIDTH;
         if !right {
             wrong += 1;
         }
     }
-    wrong
+    Ok(wrong)
 }
 
-fn main() {
-    let mut space = io::large_buffer();
-    let n = io::read_full(STDIN_FILENO, &mut space);
-    let wrong = count_wrong(&space[..n]);
-    io::print_decimal(STDOUT_FILENO, (n / WIDTH) as u64);
-    io::write_all(STDOUT_FILENO, b" vectors, ");
-    io::print_decimal(STDOUT_FILENO, wrong);
-    io::write_all(STDOUT_FILENO, b" wrong\n");
+fn main(rt: HostRuntime) -> io::Result<()> {
+    let mut space = [0u8; 65536];
+    let n = input::read_full(&mut rt.stdin(), &mut space)?;
+    let wrong = count_wrong(&rt, &space[..n])?;
+    let vectors = n / WIDTH;
+    println!(rt; "{vectors} vectors, {wrong} wrong")
 }

@@ -1,5 +1,5 @@
 -- A number as the library writes it is the definition's text. Assumes nothing.
-use Prim.Native.Nat.{ℕ, zero, suc, ◌+◌, ◌-◌, ◌^◌, ◌≤◌, ◌<◌}
+use Prim.Native.Nat.{ℕ, zero, suc, ◌-◌, ◌^◌, ◌≤◌, ◌<◌}
 use native.Mathlib.Nat.{pow-le-pow_right}
 use native.Mathlib.Omega.{arith}
 use mathlib.Core.Bool.{Bool, true, false, cond}
@@ -48,3 +48,13 @@ module _ (n : ℕ) (word : n < 2 ^ 32) where
   pub hex_text : {k : ℕ} {text : List ℕ} → IsDigitCount 16 8 n k → text ≡ last_digits 16 k n → text ≡ hex_of n
   unfolding hex_of
   hex_text {k} f e = e ∙ ap (λ (j : ℕ). last_digits 16 j n) (hex_places f)
+
+  -- no more than eight, whatever the least number of digits is
+  pub hex_few : {w k : ℕ} → w ≤ 8 → IsDigitCount 16 w n k → k ≤ 8
+  hex_few {w} {k} least f = go (ltb 8 k) refl
+    where
+      go : (b : Bool) → ltb 8 k ≡ b → k ≤ 8
+      go true e =
+          let long : 8 < k = ltb-true 8 k e in
+          absurd (omega (arith, f.2 (omega arith), pow-le-pow_right {n = 16} (omega arith) {i = 8} {j = k - 1} (omega arith)))
+      go false e = ltb-false 8 k e

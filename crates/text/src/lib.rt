@@ -9,8 +9,9 @@ pub fn put(buf: &mut [u8], at: usize, piece: &[u8]) -> usize
     requires { at + length piece.now ≤ length buf.old }
     ensures { Puts piece.now at buf.old result buf.new }
 {
-    let count = bytes::copy(piece, &mut buf[at..]);
-    at + count
+    let next = at + piece.len();
+    buf[at..next].copy_from_slice(piece);
+    next
 }
 
 // n in decimal: at most ten digits.

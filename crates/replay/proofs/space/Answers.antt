@@ -1,0 +1,7 @@
+-- `replay::space` meets its contract.
+use Rattle.std.proofs.Common.{ℕ, sym}
+use lib.ListN.{length-replicate}
+use Rattle.replay.proofs.space.Goals as goal
+
+pub returns : goal.returns
+returns c = sym (length-replicate {A = ℕ} 2097152 0)
