@@ -1,10 +1,9 @@
--- `find::lent_words` meets its contract: an accepted image has at most 8,000 words. Assumes nothing.
+-- `find::lent_words` meets its contract: an accepted image has at most 8,000 words.
 use Prim.Native.Nat.{ℕ, ◌≤◌}
 use native.Mathlib.Omega.{arith}
 use mathlib.Core.Bool.{Bool, true, false, cond}
 use mathlib.Core.List.{List}
 use mathlib.Core.Path.{◌≡◌, refl, sym, ap, ◌∙◌}
-use borrow.Author.Rules.{rules}
 use borrow.Author.Tests.{eqb-true, eq-eqb}
 use lib.Dec.{eqb}
 use Rattle.bit_matrix.specs.Shape.{shape_of, size}
@@ -13,8 +12,7 @@ use Rattle.crop.specs.CropClauses.{Checks}
 use Rattle.crop.specs.CropLaws.{checked_shape, file_accepted_by}
 use Rattle.crop.specs.declared.Checked.{Checked}
 use Rattle.find.specs.Find.{lent_words}
-use Rattle.find.proofs.lent_words.Statement.{statement}
-use Rattle.find.proofs.lent_words.Tie as tie
+use Rattle.find.proofs.lent_words.Goals as goal
 
 -- the words of a file that was checked: no image has more than 8,000
 lent_by : {c : Checked} {n : ℕ} → n ≡ size c.shape → (file : List ℕ) → Checks file c → (n ≡ lent_words file) × (n ≤ 8000)
@@ -30,11 +28,5 @@ lent_by {c} {n} is file checks = go (eqb c.answer 0) refl
         let none : n ≡ 0 = is ∙ ap size (checks.shape ∙ ap (λ (b : Bool). cond b (file_shape file) (shape_of 0 0)) e) in
         (rw (← checks.answer, e) none, omega arith)
 
-image-words-requires : tie.Need-image-words-requires
-image-words-requires c κs = search rules
-
-returns : tie.Need-returns
-returns c = lent_by c.image-words.ensures
-
-pub lent_words_spec : {M : Type 1} → statement M
-lent_words_spec = tie.close (tie.spec image-words-requires returns)
+pub returns : goal.returns
+returns c = lent_by c.image_words.ensures
