@@ -8,8 +8,8 @@ ghost use Rattle.std.specs.Io.KnownBytes.{Consumes, IsAtEnd};
 use std::io;
 use std::io::Read;
 
-// Reads until the buffer is full or the input ends, and answers how many bytes of the input stand at the buffer's start. A read that fails ends it with
-// that read's error.
+// Reads until the buffer is full or the input ends, and answers how many bytes of the input stand at the buffer's start: fewer than it has room for only
+// where the input has ended. A read that fails ends it, with that read's error.
 pub fn read_full<R: Read>(reader: &mut R, buf: &mut [u8]) -> io::Result<usize>
     ensures in_bounds { ReadsAtMost result buf.new }
     ensures bytes { IfOk result (λ n. Consumes (R.remaining reader.old) (R.remaining reader.new) (take n buf.new)) }
