@@ -1,6 +1,6 @@
 //! Runs the program `find` on the stored vectors' files and on inputs at the edges, and compares what it prints with the judge's lines, or
-//! with the second reading's where there is no judge. The program is target/bin/find of the repository (`rt check find` makes it), or the
-//! one that FIND names; without it these tests fail.
+//! with the second reading's where there is no judge. The program is crates/find/out/find of the repository (`rt run` in crates/find makes
+//! it), or the one that FIND names; without it these tests fail.
 use std::{
     env, fs,
     io::Write,
@@ -16,7 +16,7 @@ use std::{
 use oracle::{JUDGE, SECOND, lines, vectors};
 
 fn path() -> PathBuf {
-    let usual = concat!(env!("CARGO_MANIFEST_DIR"), "/../target/bin/find");
+    let usual = concat!(env!("CARGO_MANIFEST_DIR"), "/../crates/find/out/find");
     env::var_os("FIND").map_or(PathBuf::from(usual), PathBuf::from)
 }
 
@@ -26,7 +26,12 @@ fn started(stdin: Stdio) -> Child {
         .stdin(stdin)
         .stdout(Stdio::piped())
         .spawn();
-    let problem = |error| panic!("{}: {error} (rt check find makes it)", path().display());
+    let problem = |error| {
+        panic!(
+            "{}: {error} (rt run in crates/find makes it)",
+            path().display()
+        )
+    };
     started.unwrap_or_else(problem)
 }
 

@@ -127,14 +127,7 @@ impl Folder {
     fn new(name: &str) -> Self {
         let folder = env::temp_dir().join(format!("bullseye-{name}-{}", process::id()));
         fs::create_dir_all(folder.join("target")).expect("a folder is made");
-        for name in [
-            "docs",
-            "examples",
-            "include",
-            "README.md",
-            "target/staticlib",
-            "target/bin",
-        ] {
+        for name in ["docs", "examples", "include", "README.md", "crates"] {
             symlink(repository().join(name), folder.join(name)).expect("a link is made");
         }
         Folder(folder)
