@@ -4,10 +4,7 @@
 use std::{
     env, fs,
     io::Write,
-    os::{
-        fd::OwnedFd,
-        unix::{net::UnixDatagram, process::ExitStatusExt},
-    },
+    os::{fd::OwnedFd, unix::net::UnixDatagram},
     path::PathBuf,
     process::{Child, Command, Stdio},
     thread,
@@ -147,11 +144,18 @@ fn output_that_cannot_be_written() {
     }
 }
 
-/// As other programs, it is ended by the signal of a closed pipe.
+/// The signal of a closed pipe is ignored in every program of the kit: it is output that cannot be written.
 #[test]
 fn a_closed_pipe() {
-    let mut child = started(Stdio::piped());
-    drop((child.stdout.take(), child.stdin.take()));
-    let status = child.wait().expect("the program ends");
-    assert_eq!(status.signal(), Some(13));
+    let mut child = Command::new(path())
+        .stdin(Stdio::piped())
+        .stdout(Stdio::piped())
+        .stderr(Stdio::piped())
+        .spawn()
+        .expect("the program starts");
+    // its input ends once nobody reads its output
+    drop(child.stdout.take());
+    let output = child.wait_with_output().expect("the program ends");
+    assert!(output.status.success());
+    assert_eq!(output.stderr, b"find: standard output cannot be written\n");
 }
