@@ -1,4 +1,4 @@
-//! Proves the crate `step_exports`, with what it depends on, and links the archive that `rt lib` writes of it.
+//! Proves the crate `step_exports`, with what it depends on, and links a copy of the archive that `rt lib` writes of it: `rt ci` removes that.
 
 use std::fs;
 use std::path::Path;
@@ -20,10 +20,11 @@ fn main() {
         output.status.success(),
         "rt lib in crates/step_exports: {log}"
     );
-    println!(
-        "cargo::rustc-link-search=native={}",
-        crates.join("step_exports/out").display()
-    );
+    let name = "libstep_exports.a";
+    let copies = std::env::var("OUT_DIR").expect("cargo makes a folder for them");
+    let archive = crates.join("step_exports/out").join(name);
+    fs::copy(archive, Path::new(&copies).join(name)).expect("the archive is copied");
+    println!("cargo::rustc-link-search=native={copies}");
     println!("cargo::rustc-link-lib=static=step_exports");
     let input = repository.join("crates.txt");
     println!("cargo::rerun-if-changed={}", input.display());

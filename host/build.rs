@@ -1,4 +1,4 @@
-//! Proves the crate `tunnel`, with what it depends on, and links the archive that `rt lib` writes of it.
+//! Proves the crate `tunnel`, with what it depends on, and links a copy of the archive that `rt lib` writes of it: `rt ci` removes that.
 use std::{env, fs, path::Path, process::Command};
 
 fn main() {
@@ -19,8 +19,10 @@ fn main() {
         );
         panic!("rt lib in crates/tunnel: {}\n{out}{err}", output.status);
     }
-    let archive = crates.join("tunnel/out");
-    println!("cargo::rustc-link-search=native={}", archive.display());
+    let folder = env::var("OUT_DIR").expect("cargo sets OUT_DIR");
+    let archive = crates.join("tunnel/out/libtunnel.a");
+    fs::copy(archive, Path::new(&folder).join("libtunnel.a")).expect("the archive is copied");
+    println!("cargo::rustc-link-search=native={folder}");
     println!("cargo::rustc-link-lib=static=tunnel");
     let input = repository.join("crates.txt");
     println!("cargo::rerun-if-changed={}", input.display());
