@@ -1,5 +1,6 @@
-//! Proves the crate `step_exports`, with what it depends on, and links the archive that `rt staticlib` writes of it.
+//! Proves the crate `step_exports`, with what it depends on, and links a copy of the archive that `rt lib` writes of it: `rt ci` removes that.
 
+use std::fs;
 use std::path::Path;
 use std::process::Command;
 
@@ -8,22 +9,32 @@ fn main() {
     let repository = Path::new(&folder)
         .parent()
         .expect("bench/ stands in the repository");
+    let crates = repository.join("crates");
     let output = Command::new("rt")
-        .args(["staticlib", "step_exports"])
-        .current_dir(repository)
+        .arg("lib")
+        .current_dir(crates.join("step_exports"))
         .output()
         .expect("rt runs");
     let log = String::from_utf8_lossy(&output.stdout);
-    assert!(output.status.success(), "rt staticlib step_exports: {log}");
-    println!(
-        "cargo::rustc-link-search=native={}",
-        repository.join("target/staticlib").display()
+    assert!(
+        output.status.success(),
+        "rt lib in crates/step_exports: {log}"
     );
+    let name = "libstep_exports.a";
+    let copies = std::env::var("OUT_DIR").expect("cargo makes a folder for them");
+    let archive = crates.join("step_exports/out").join(name);
+    fs::copy(archive, Path::new(&copies).join(name)).expect("the archive is copied");
+    println!("cargo::rustc-link-search=native={copies}");
     println!("cargo::rustc-link-lib=static=step_exports");
-    for input in ["crates", "crates.txt"] {
-        println!(
-            "cargo::rerun-if-changed={}",
-            repository.join(input).display()
-        );
+    let input = repository.join("crates.txt");
+    println!("cargo::rerun-if-changed={}", input.display());
+    for folder in fs::read_dir(&crates).expect("crates/ is there") {
+        // beside these is out/, which each run of rt changes
+        for part in ["src", "specs", "proofs"] {
+            let input = folder.as_ref().expect("it is listed").path().join(part);
+            if input.exists() {
+                println!("cargo::rerun-if-changed={}", input.display());
+            }
+        }
     }
 }

@@ -1,5 +1,5 @@
 /* The proved MaxiCode bull's-eye finder, for C and C++. docs/MANUAL.md has the crop file, the answers and the record in words, and a
- * complete program. Link target/staticlib/libtunnel.a, which `rt staticlib tunnel` writes.
+ * complete program. Link crates/tunnel/out/libtunnel.a, which `rt lib` writes in crates/tunnel.
  *
  * Every function may be called with any lengths and any content: what does not fit is refused, with a number or, of the lines, with
  * length 0. A pointer must lead to as many elements as the length after it says (with length 0 it may be NULL), and a buffer that is

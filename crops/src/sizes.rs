@@ -15,7 +15,7 @@ pub const GREATEST_SIDE: u32 = 2048;
 /// The most words that an image may have.
 pub const MOST_WORDS: usize = 8000;
 
-/// A file's number does not depend on what follows these bytes (`refusal-prefix` of the proved crate `crop`): no accepted file is as
+/// A file's number does not depend on what follows these bytes (`refusal_prefix` of the proved crate `crop`): no accepted file is as
 /// long.
 pub const LONGEST: usize = 65_536;
 

@@ -1,6 +1,6 @@
 /* Prints the cells of a lone symbol: a word for each row, in hexadecimal. The crop comes on standard input.
  *
- *     cc -std=c99 -Iinclude examples/c/cells.c target/staticlib/libtunnel.a -o target/cells-c
+ *     cc -std=c99 -Iinclude examples/c/cells.c crates/tunnel/out/libtunnel.a -o target/cells-c
  *     target/cells-c < examples/lone.crop
  */
 #include <maxicode.h>

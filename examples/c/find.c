@@ -1,6 +1,6 @@
 /* Searches a crop file and prints what was found, in words.
  *
- *     cc -std=c99 -Iinclude examples/c/find.c target/staticlib/libtunnel.a -o target/find-c
+ *     cc -std=c99 -Iinclude examples/c/find.c crates/tunnel/out/libtunnel.a -o target/find-c
  *     target/find-c examples/parcel.crop
  */
 #include <maxicode.h>

@@ -8,9 +8,9 @@ use std::{
     thread,
 };
 
-/// The program that the variable FIND names, or target/bin/find; none where there is no such file.
+/// The program that the variable FIND names, or crates/find/out/find; none where there is no such file.
 pub fn find() -> Option<PathBuf> {
-    let path = env::var_os("FIND").map_or(PathBuf::from("target/bin/find"), PathBuf::from);
+    let path = env::var_os("FIND").map_or(PathBuf::from("crates/find/out/find"), PathBuf::from);
     path.is_file().then_some(path)
 }
 

@@ -1,13 +1,10 @@
 //! Runs the program `find` on the stored vectors' files and on inputs at the edges, and compares what it prints with the judge's lines, or
-//! with the second reading's where there is no judge. The program is target/bin/find of the repository (`rt check find` makes it), or the
-//! one that FIND names; without it these tests fail.
+//! with the second reading's where there is no judge. The program is crates/find/out/find of the repository (`rt run` in crates/find makes
+//! it), or the one that FIND names; without it these tests fail.
 use std::{
     env, fs,
     io::Write,
-    os::{
-        fd::OwnedFd,
-        unix::{net::UnixDatagram, process::ExitStatusExt},
-    },
+    os::{fd::OwnedFd, unix::net::UnixDatagram},
     path::PathBuf,
     process::{Child, Command, Stdio},
     thread,
@@ -16,7 +13,7 @@ use std::{
 use oracle::{JUDGE, SECOND, lines, vectors};
 
 fn path() -> PathBuf {
-    let usual = concat!(env!("CARGO_MANIFEST_DIR"), "/../target/bin/find");
+    let usual = concat!(env!("CARGO_MANIFEST_DIR"), "/../crates/find/out/find");
     env::var_os("FIND").map_or(PathBuf::from(usual), PathBuf::from)
 }
 
@@ -26,7 +23,12 @@ fn started(stdin: Stdio) -> Child {
         .stdin(stdin)
         .stdout(Stdio::piped())
         .spawn();
-    let problem = |error| panic!("{}: {error} (rt check find makes it)", path().display());
+    let problem = |error| {
+        panic!(
+            "{}: {error} (rt run in crates/find makes it)",
+            path().display()
+        )
+    };
     started.unwrap_or_else(problem)
 }
 
@@ -60,16 +62,14 @@ fn piped(input: &[u8]) -> String {
     text
 }
 
-/// The same, a byte to a read: each is a packet. An empty packet ends one read, and the program makes sure of the end by another.
+/// The same, a byte to a read: each is a packet, and an empty packet is the end.
 fn byte_by_byte(input: &[u8]) -> String {
     let (ours, theirs) = UnixDatagram::pair().expect("a pair of sockets");
     let child = started(Stdio::from(OwnedFd::from(theirs)));
     for byte in input {
         ours.send(&[*byte]).expect("the byte is sent");
     }
-    for _ in 0..2 {
-        ours.send(&[]).expect("the end is sent");
-    }
+    ours.send(&[]).expect("the end is sent");
     printed(child)
 }
 
@@ -142,11 +142,17 @@ fn output_that_cannot_be_written() {
     }
 }
 
-/// As other programs, it is ended by the signal of a closed pipe.
+/// Every program of the kit ignores the signal of a closed pipe; this one ends with the status that a shell gives for that signal.
 #[test]
 fn a_closed_pipe() {
-    let mut child = started(Stdio::piped());
-    drop((child.stdout.take(), child.stdin.take()));
-    let status = child.wait().expect("the program ends");
-    assert_eq!(status.signal(), Some(13));
+    let mut child = Command::new(path())
+        .stdin(Stdio::piped())
+        .stdout(Stdio::piped())
+        .stderr(Stdio::piped())
+        .spawn()
+        .expect("the program starts");
+    // its input ends once nobody reads its output
+    drop(child.stdout.take());
+    let output = child.wait_with_output().expect("the program ends");
+    assert_eq!((output.status.code(), output.stderr), (Some(141), vec![]));
 }

@@ -78,14 +78,15 @@ impl Drop for Repository {
     }
 }
 
-const CODE: &str = "fn f(x: u32) -> u32\n    requires { a }\n    ensures { b }\n{\n    x\n}\n";
+const CODE: &str =
+    "fn f(x: u32) -> u32\n    requires { a }\n    ensures { b\n        and c }\n{\n    x\n}\n";
 
 const EXPECTED: &str = "\
 | Kind | Files moved | Of | Lines added | Lines removed |
 |---|---|---|---|---|
 | definitions | 1 | 1 | 1 | 1 |
 | clauses | 1 | 1 | 1 | 0 |
-| contracts | 1 | 2 | 1 | 1 |
+| contracts | 1 | 2 | 2 | 2 |
 | laws | 1 | 1 | 0 | 0 |
 | code | 1 | 2 | 1 | 0 |
 | proofs | 1 | 0 | 0 | 1 |
@@ -105,7 +106,7 @@ Clauses:
 
 Contracts:
 
-- crates/c/src/lib.rt (+1 -1)
+- crates/c/src/lib.rt (+2 -2)
 
 Laws:
 
@@ -117,14 +118,14 @@ Code:
 
 Proofs:
 
-- crates/c/proofs/f/Proof.antt (+0 -1)
+- crates/c/proofs/f/Answers.antt (+0 -1)
 
 Documents:
 
 - a note.md (+2 -0)
 ";
 
-/// A definition and a contract change, a law changes its name, a proof goes, code changes by itself, and two files are new.
+/// A definition and two lines of contracts change, a law changes its name, a proof goes, code changes by itself, and two files are new.
 #[test]
 fn files_are_counted_by_kind() {
     let law = "one\ntwo\nthree\nfour\n";
@@ -134,7 +135,7 @@ fn files_are_counted_by_kind() {
         ("crates/c/specs/OldLaws.antt", law),
         ("crates/c/src/lib.rt", CODE),
         ("crates/c/src/other.rt", CODE),
-        ("crates/c/proofs/f/Proof.antt", "p\n"),
+        ("crates/c/proofs/f/Answers.antt", "p\n"),
     ];
     let Some(repository) = Repository::with(&files) else {
         return;
@@ -146,12 +147,13 @@ fn files_are_counted_by_kind() {
         "crates/c/specs/OldLaws.antt",
         "crates/c/specs/NewLaws.antt",
     ]);
-    repository.write("crates/c/src/lib.rt", &CODE.replace("{ b }", "{ c }"));
+    let code = CODE.replace("{ a }", "{ e }").replace("and c", "and d");
+    repository.write("crates/c/src/lib.rt", &code);
     repository.write(
         "crates/c/src/other.rt",
         &CODE.replace("    x\n", "    // x\n    x\n"),
     );
-    repository.git(&["rm", "--quiet", "crates/c/proofs/f/Proof.antt"]);
+    repository.git(&["rm", "--quiet", "crates/c/proofs/f/Answers.antt"]);
     repository.write("a note.md", "1\n2\n");
     let Some((text, ended_well)) = repository.moved(&["HEAD"]) else {
         return;

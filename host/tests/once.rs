@@ -1,11 +1,10 @@
-//! Checks on what is compiled, by the calls in the output of `rt mir`, that a scale makes its boundary once, before the loop over the degrees, and that a
-//! degree looks up its sine and cosine once, before the loop over the points. A look-up is a call of `sines::sine`, which alone indexes the table (source.rs).
-//! Without rt both are skipped.
+//! Checks on what is compiled, by the calls in the proved MIR of the libraries under `tunnel`, that a scale makes its boundary once, before the loop over the
+//! degrees, and that a degree looks up its sine and cosine once, before the loop over the points. A look-up is a call of `sines::sine`, which alone indexes the
+//! table (source.rs). A library's MIR is what `rt lib` links the archive from.
 use std::{
-    io::{self, Write},
+    collections::{BTreeMap, BTreeSet},
+    fs,
     path::Path,
-    process::Command,
-    sync::OnceLock,
 };
 
 const TRY_SCALES: &str = "detector_turn::try_scales";
@@ -26,59 +25,167 @@ struct Call {
     loops: usize,
 }
 
-/// The calls in a program's MIR, a term in brackets: `(fn-def "NAME" ..)` has `(call (direct (fnRef "NAME")) ..)`, perhaps in `(loop ..)`.
+/// A value of JSON. The escapes of a text stay as they are.
+#[derive(Debug, PartialEq)]
+enum Json<'a> {
+    Text(&'a str),
+    List(Vec<Json<'a>>),
+    Fields(Vec<(&'a str, Json<'a>)>),
+    /// A number, true, false or null.
+    Word(&'a str),
+}
+
+impl<'a> Json<'a> {
+    /// The value that a text begins with; the text keeps what comes after it.
+    fn read(text: &mut &'a str) -> Self {
+        *text = text.trim_start();
+        if text.starts_with('[') {
+            let mut list = Vec::new();
+            while another(text, ']') {
+                list.push(Json::read(text));
+            }
+            Json::List(list)
+        } else if text.starts_with('{') {
+            let mut fields = Vec::new();
+            while another(text, '}') {
+                let name = quoted(text);
+                *text = text
+                    .trim_start()
+                    .strip_prefix(':')
+                    .expect("a field has a value");
+                fields.push((name, Json::read(text)));
+            }
+            Json::Fields(fields)
+        } else if text.starts_with('"') {
+            Json::Text(quoted(text))
+        } else {
+            let ends = |letter: char| letter.is_whitespace() || ",]}".contains(letter);
+            let (word, rest) = text.split_at(text.find(ends).unwrap_or(text.len()));
+            *text = rest;
+            Json::Word(word)
+        }
+    }
+
+    fn list(&self) -> &[Json<'a>] {
+        let Json::List(list) = self else {
+            panic!("no list: {self:?}")
+        };
+        list
+    }
+
+    /// What a field has, of an object that has it.
+    fn field(&self, name: &str) -> Option<&Json<'a>> {
+        let Json::Fields(fields) = self else {
+            return None;
+        };
+        let found = fields.iter().find(|(own, _)| *own == name);
+        found.map(|(_, value)| value)
+    }
+}
+
+/// Whether a list goes on: passes the bracket or the comma before its next item, or what ends it.
+fn another(text: &mut &str, end: char) -> bool {
+    let rest = text.trim_start();
+    let rest = rest
+        .strip_prefix(['[', '{', ','])
+        .unwrap_or(rest)
+        .trim_start();
+    let ended = rest.strip_prefix(end);
+    *text = ended.unwrap_or(rest);
+    ended.is_none()
+}
+
+/// The text in quotes that comes next.
+fn quoted<'a>(text: &mut &'a str) -> &'a str {
+    let rest = text.trim_start().strip_prefix('"').expect("a text");
+    let mut escaped = false;
+    let end = rest.find(|letter| {
+        let ends = letter == '"' && !escaped;
+        escaped = letter == '\\' && !escaped;
+        ends
+    });
+    let end = end.expect("a text ends");
+    *text = &rest[end + 1..];
+    &rest[..end]
+}
+
+/// The calls in a library's MIR: a list of functions, each with its name and fields. Its body is a list of steps, each before those that stand in it: of two
+/// in a sequence, of one in a loop or a block, of both sides of a choice, of each case of a switch and of its rest.
 fn calls(mir: &str) -> Vec<Call> {
     let mut found = Vec::new();
-    let mut from = String::new();
-    // the words after the brackets that are open
-    let mut open: Vec<&str> = Vec::new();
-    for (at, text) in mir.split('"').enumerate() {
-        if at % 2 == 1 {
-            match open[..] {
-                [.., "fn-def"] => from = text.to_owned(),
-                [.., "call", "direct", "fnRef"] => found.push(Call {
-                    from: from.clone(),
-                    to: text.to_owned(),
-                    loops: open.iter().filter(|&&word| word == "loop").count(),
-                }),
-                _ => {}
-            }
-            continue;
-        }
-        for (place, bracket) in text.match_indices(['(', ')']) {
-            if bracket == ")" {
-                open.pop();
-            } else {
-                let rest = &text[place + 1..];
-                let ends = |letter: char| letter.is_whitespace() || "()".contains(letter);
-                let end = rest.find(ends).unwrap_or(rest.len());
-                open.push(&rest[..end]);
+    for function in Json::read(&mut { mir }).list() {
+        let [Json::Text(from), fields] = function.list() else {
+            panic!("no function: {function:?}")
+        };
+        // the loops of each step that is still to come
+        let mut open = vec![0];
+        for step in fields.field("body").expect("it has a body").list() {
+            let loops = open.pop().expect("the body goes on");
+            let (inside, deeper) = match step {
+                Json::Text("Seq") => (2, 0),
+                Json::Text("Loop") => (1, 1),
+                Json::Text("Block") => (1, 0),
+                _ if step.field("If").is_some() => (2, 0),
+                _ => (step.field("Switch").map_or(0, cases), 0),
+            };
+            open.extend(vec![loops + deeper; inside]);
+            if let Some(to) = step.field("Call").and_then(callee) {
+                let (from, to) = (String::from(*from), to.to_owned());
+                found.push(Call { from, to, loops });
             }
         }
+        assert!(open.is_empty(), "{from}: its body ends early");
     }
     found
 }
 
-/// The calls of the library that hosts link, or none, with one line, where rt is missing.
-fn printed() -> Option<Vec<Call>> {
-    let mut command = Command::new("rt");
-    let root = Path::new(env!("CARGO_MANIFEST_DIR")).join("..");
-    let Ok(output) = command.args(["mir", "tunnel"]).current_dir(root).output() else {
-        // shown though the test passes
-        let _ = writeln!(io::stderr(), "skipped: there is no rt");
-        return None;
+/// How many steps stand in a switch.
+fn cases(switch: &Json) -> usize {
+    let [_, cases, rest] = switch.list() else {
+        panic!("no switch: {switch:?}")
     };
-    let errors = String::from_utf8_lossy(&output.stderr);
-    assert!(output.status.success(), "rt mir tunnel: {errors}");
-    let calls = calls(&String::from_utf8_lossy(&output.stdout));
-    assert!(calls.len() > 100, "only {} calls were found", calls.len());
-    Some(calls)
+    cases.list().len() + usize::from(*rest == Json::Word("true"))
 }
 
-/// The same, printed once for all tests: two runs of rt at a time would write over each other's files.
-fn compiled() -> Option<&'static [Call]> {
-    static CALLS: OnceLock<Option<Vec<Call>>> = OnceLock::new();
-    CALLS.get_or_init(printed).as_deref()
+/// The function that is called by its name.
+fn callee<'a>(call: &Json<'a>) -> Option<&'a str> {
+    match call.list()[0].field("Fn")?.list()[0] {
+        Json::Text(name) => Some(name),
+        _ => None,
+    }
+}
+
+/// The crates of the repository that a crate uses, and those that they use, by crates.txt.
+fn below(text: &str, name: &str) -> BTreeSet<String> {
+    let lines = text.lines().filter(|line| !line.starts_with('#'));
+    let uses: BTreeMap<&str, &str> = lines
+        .filter_map(|line| line.split_once(':'))
+        .map(|(head, uses)| (head.split(' ').next().unwrap_or(head), uses))
+        .collect();
+    let mut found = BTreeSet::new();
+    let mut left = vec![name];
+    while let Some(one) = left.pop() {
+        let used = uses[one].split_whitespace();
+        let own = used.filter(|used| uses.contains_key(used));
+        left.extend(own.filter(|own| found.insert(String::from(*own))));
+    }
+    found
+}
+
+/// The calls of the libraries that the archive is linked from.
+fn compiled() -> Vec<Call> {
+    let host = Path::new(env!("CARGO_MANIFEST_DIR"));
+    let root = host.parent().expect("host/ has a parent");
+    let list = fs::read_to_string(root.join("crates.txt")).expect("crates.txt is there");
+    let mut found = Vec::new();
+    for name in below(&list, "tunnel") {
+        let file = format!("crates/{name}/out/rlib/{name}.rlib/toolchain/mir.json");
+        let text = fs::read_to_string(root.join(&file));
+        let made = |error| panic!("{file}: {error} (rt lib in crates/tunnel makes it)");
+        found.extend(calls(&text.unwrap_or_else(made)));
+    }
+    assert!(found.len() > 100, "only {} calls were found", found.len());
+    found
 }
 
 /// What a function calls, in the order of its text.
@@ -110,7 +217,7 @@ fn reached<'a>(calls: &'a [Call], from: &'a str) -> Vec<&'a str> {
 
 #[test]
 fn a_scale_makes_its_boundary_once_before_its_degrees() {
-    let Some(calls) = compiled() else { return };
+    let calls = &compiled();
     assert_eq!(callers(calls, ATTEMPT), [(TRY_SCALES, 1)]);
     assert_eq!(
         called(calls, ATTEMPT),
@@ -139,7 +246,7 @@ fn a_scale_makes_its_boundary_once_before_its_degrees() {
 
 #[test]
 fn a_degree_looks_up_its_sine_and_cosine_once_before_its_points() {
-    let Some(calls) = compiled() else { return };
+    let calls = &compiled();
     let of_degrees: Vec<_> = (callers(calls, ANGLE_OF).into_iter())
         .filter(|(from, _)| reached(calls, TRY_DEGREES).contains(from))
         .collect();
@@ -158,12 +265,20 @@ fn a_degree_looks_up_its_sine_and_cosine_once_before_its_points() {
 
 #[test]
 fn a_call_in_a_loop_is_told_from_one_before_it() {
-    let body = |loops: &str| format!(r#"(seq (call (direct (fnRef "b::c")) lnil) {loops})"#);
-    let inside =
-        r#"(block (loop (seq (loop skip) (call (direct (fnRef "d")) lnil (place 0 lnil)))))"#;
+    let call =
+        |to: &str| format!(r#"{{"Call":[{{"Fn":["{to}",{{"types":[]}}]}},[],{{"local":0}}]}}"#);
+    let body = [
+        r#""Seq""#.into(),
+        call("b::c"),
+        r#""Seq","Block","Loop","Seq",{"If":{"Copy":{"local":3}}},"Skip",{"Exit":1}"#.into(),
+        r#"{"Switch":[{"local":1},[[0],[1]],true]},"Skip""#.into(),
+        call("d"),
+        r#"{"Exit":0}"#.into(),
+        call("e"),
+    ];
     let mir = format!(
-        r#"program (lcons (fn-def "a" (fnItem 0 {})) (lcons (fn-def "b::c" (fnItem 0 return)) lnil)) (fnRef "a")"#,
-        body(inside)
+        r#"[["a",{{"types":[],"body":[{}]}}], ["b::c",{{"name":"\\\"]","body":["Return"]}}]]"#,
+        body.join(", ")
     );
     let call = |from: &str, to: &str, loops| Call {
         from: from.to_owned(),
@@ -171,7 +286,16 @@ fn a_call_in_a_loop_is_told_from_one_before_it() {
         loops,
     };
     let calls = calls(&mir);
-    assert_eq!(calls, [call("a", "b::c", 0), call("a", "d", 1)]);
-    assert_eq!(reached(&calls, "a"), ["a", "b::c", "d"]);
+    let expected = [call("a", "b::c", 0), call("a", "d", 1), call("a", "e", 0)];
+    assert_eq!(calls, expected);
+    assert_eq!(reached(&calls, "a"), ["a", "b::c", "d", "e"]);
     assert_eq!(callers(&calls, "d"), [("a", 1)]);
+}
+
+#[test]
+fn crates_below_are_found() {
+    let text = "# a: comment\na:\nb: a std\nc staticlib: b io\nd: c\n";
+    let names = |found: &[&str]| found.iter().map(|name| String::from(*name)).collect();
+    assert_eq!(below(text, "c"), names(&["a", "b"]));
+    assert_eq!(below(text, "a"), names(&[]));
 }

@@ -205,19 +205,20 @@ fn definition_lines(text: &str) -> usize {
 /// stands under the name that it is given.
 fn taken(text: &str) -> Vec<(String, String)> {
     let mut found = Vec::new();
-    let uses = text
-        .lines()
-        .filter_map(|line| line.strip_prefix("use Rattle·"));
-    for line in uses.filter(|line| !line.contains(".specs.declared.")) {
-        let whole = line.split_once(" as ");
-        let (module, names) = (line.split_once(".{").or(whole)).expect("a use names what it takes");
-        let (owner, file) = module.split_once('.').expect("a file of a crate");
-        let file = format!(
-            "{}/{}.antt",
-            owner.trim_end_matches("·specs"),
-            file.replace('.', "/")
-        );
-        let names = names.trim_end_matches('}').split(", ");
+    for item in text.split("\nuse Rattle.").skip(1) {
+        let (line, _) = item.split_once('\n').unwrap_or((item, ""));
+        let (head, listed) = item.split_once(".{").unwrap_or((line, ""));
+        // the names may stand on lines of their own
+        let (module, names) = match head.len() < line.len() {
+            true => (head, listed.split_once('}').expect("a list ends").0),
+            false => line.split_once(" as ").expect("a use names what it takes"),
+        };
+        if module.contains(".specs.declared.") {
+            continue;
+        }
+        let file = format!("{}.antt", module.replace('.', "/"));
+        let names = names.split(',').map(str::trim);
+        let names = names.filter(|name| !name.is_empty());
         found.extend(names.map(|name| (name.to_string(), file.clone())));
     }
     found
@@ -314,8 +315,10 @@ fn definitions_lean_on_listed_ones() {
     let files: BTreeSet<&str> = counts.into_iter().map(|(path, _)| path).collect();
     let cited = citations(section);
     let mut problems = Vec::new();
+    let mut counted = 0;
     for path in &files {
         for (name, from) in taken(&read(&in_crates(path))) {
+            counted += 1;
             let known = files.contains(from.as_str()) || cited.contains(&(&*name, &*from));
             if in_crates(&from).exists() && !known {
                 problems.push(format!(
@@ -324,6 +327,7 @@ fn definitions_lean_on_listed_ones() {
             }
         }
     }
+    assert!(counted > 100, "only {counted} names were found");
     report(&problems);
 }
 
@@ -339,6 +343,19 @@ fn what_is_wrong_is_noticed() {
     assert!(!declares("D.antt", specs, "a") && !declares("D.antt", specs, "b"));
     assert_eq!(definition_lines(specs), 3);
     assert_eq!(definition_lines("use m.{\n  a,\n  b,\n}\n\nc = a\n"), 1);
+    let uses = "-- a\nuse Rattle.c.specs.D.{a, b}\nuse Rattle.c.specs.E.{\n  d,\n}\nuse Rattle.e.specs.F as f\nuse Rattle.c.specs.declared.T.{T}\nuse mathlib.M.{m}\n";
+    let names: Vec<String> = (taken(uses).into_iter())
+        .map(|(name, file)| format!("{name} of {file}"))
+        .collect();
+    assert_eq!(
+        names,
+        [
+            "a of c/specs/D.antt",
+            "b of c/specs/D.antt",
+            "d of c/specs/E.antt",
+            "f of e/specs/F.antt",
+        ]
+    );
 }
 
 #[test]

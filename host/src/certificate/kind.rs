@@ -49,14 +49,14 @@ const BLANKED: &str = "\
 # the same answer and counts, the same word at each place of 400 records, and the same marks. It is proved for all such crops, not tried
 # on some. The deleted crop is one of them: its own search marked the kept pixels, and only others were made white.
 # By these theorems, which `rt ci` proves:
-#   `runs-agree` (crates/detector/specs/Demand3.antt): two accepted runs over crops of one size, with equal records lent and under one
+#   `runs_agree` (crates/detector/specs/Demand3.antt): two accepted runs over crops of one size, with equal records lent and under one
 #     setting of the ellipse check, that agree at every bit marked by the first are one
-#   `marked-when-steps-read` (crates/detector/specs/Demand3.antt): a bit is marked exactly when the steps of the search read it
-#   `file-run` (crates/detector/specs/Demand3.antt), `words-run` (crates/detector/specs/Demand3.antt): each search of a crop file, or of
-#     an image in words, that is not refused is such a run
+#   `marked_when_steps_read` (crates/detector/specs/Demand3.antt): a bit is marked exactly when the steps of the search read it
+#   `file_run_lem` (crates/detector/specs/Demand3.antt), `words_run_lem` (crates/detector/specs/Demand3.antt): each search of a crop
+#     file, or of an image in words, that is not refused is such a run
 # And by the equations of the entries, for every input:
-#   `maxicode_search_file` (crates/tunnel/src/lib.rt): its report, records and marks are `fileRun` (crates/detector/specs/Detector.antt)
-#   `maxicode_search_words` (crates/tunnel/src/lib.rt): the same of words, `wordsRun` (crates/detector/specs/Detector.antt)
+#   `maxicode_search_file` (crates/tunnel/src/lib.rt): its report, records and marks are `file_run` (crates/detector/specs/Detector.antt)
+#   `maxicode_search_words` (crates/tunnel/src/lib.rt): the same of words, `words_run` (crates/detector/specs/Detector.antt)
 # Not part of the theorem: that the deleted crop had these colours at the kept pixels, for which whoever blanked it answers; the
 # program that wrote this text; the prover and the compiler's back end (docs/PROMISES.md, What is assumed).
 # Kept pixels can still be seen: a row kept from side to side shows whatever stood in it.
@@ -71,5 +71,5 @@ const REDACTED: &str = "\
 # Another crop with these black pixels may give another result: a second bull's-eye beside the first changes the counts and can change
 # the class. So this certificate cannot answer for what was deleted. A blanked crop can; it still shows half the rows of any text.
 # What a search of the crop below gives is what a definition of its steps gives, for every input:
-#   `maxicode_search_file` (crates/tunnel/src/lib.rt): its report, records and marks are `fileRun` (crates/detector/specs/Detector.antt)
+#   `maxicode_search_file` (crates/tunnel/src/lib.rt): its report, records and marks are `file_run` (crates/detector/specs/Detector.antt)
 ";

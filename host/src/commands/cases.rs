@@ -24,7 +24,7 @@ Skipped is a call whose entry this build does not have, and a call of the progra
 CROPS has `ID HEX` on each line, the bytes of a crop file. In CASES a line that begins with # or | is for the reader; each other line is
   CALL key=value .. => key=value ..
 left what the entry is given, right what is seen. docs/MANUAL.md has the calls and keys. - is standard input.
-The call `program` runs target/bin/find, or the program that the variable FIND names.
+The call `program` runs crates/find/out/find, or the program that the variable FIND names.
 
 --write  prints CASES again, with right sides as seen; a line that is skipped stays as it is
 -o FILE  writes that there instead of to standard output

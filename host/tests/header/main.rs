@@ -49,7 +49,7 @@ fn built(compiler: &[&str], source: &str, program: &Path) -> bool {
         .arg(repository.join("include"))
         .arg(repository.join(source))
         .args(["-x", "none"])
-        .arg(repository.join("target/staticlib/libtunnel.a"))
+        .arg(concat!(env!("OUT_DIR"), "/libtunnel.a"))
         .arg("-o")
         .arg(program)
         .output();

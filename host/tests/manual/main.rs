@@ -127,15 +127,19 @@ impl Folder {
     fn new(name: &str) -> Self {
         let folder = env::temp_dir().join(format!("bullseye-{name}-{}", process::id()));
         fs::create_dir_all(folder.join("target")).expect("a folder is made");
-        for name in [
-            "docs",
-            "examples",
-            "include",
-            "README.md",
-            "target/staticlib",
-            "target/bin",
-        ] {
+        for name in ["docs", "examples", "include", "README.md"] {
             symlink(repository().join(name), folder.join(name)).expect("a link is made");
+        }
+        let archive = PathBuf::from(concat!(env!("OUT_DIR"), "/libtunnel.a"));
+        let program = repository().join("crates/find/out/find");
+        for (file, name) in [
+            (archive, "tunnel/out/libtunnel.a"),
+            (program, "find/out/find"),
+        ] {
+            let link = folder.join("crates").join(name);
+            let place = link.parent().expect("it is in a folder");
+            fs::create_dir_all(place).expect("a folder is made");
+            symlink(file, link).expect("a link is made");
         }
         Folder(folder)
     }

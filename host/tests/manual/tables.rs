@@ -154,7 +154,9 @@ fn the_architecture_names_what_is_there() {
         let cells: Vec<&str> = row.split('|').collect();
         let function = named(cells[1]).expect("a row begins with one name");
         assert!(
-            code.contains(&format!("fn {function}(")),
+            ["(", "<"]
+                .iter()
+                .any(|next| code.contains(&format!("fn {function}{next}"))),
             "no function {function}"
         );
         if let Some(definition) = named(cells[3]) {

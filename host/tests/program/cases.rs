@@ -14,7 +14,7 @@ search words=1 marks=33 records=39 => answer=6 found=0 kept=0 marked=0 marks=33:
 
 /// The program `find` of the repository; the gate builds it first.
 fn find() -> PathBuf {
-    let usual = Path::new(env!("CARGO_MANIFEST_DIR")).join("../target/bin/find");
+    let usual = Path::new(env!("CARGO_MANIFEST_DIR")).join("../crates/find/out/find");
     env::var_os("FIND").map_or(usual, PathBuf::from)
 }
 

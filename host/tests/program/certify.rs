@@ -140,7 +140,7 @@ fn its_theorems_are_there() {
         names.push(name);
     }
     let promises = fs::read_to_string(repository.join("docs/PROMISES.md")).expect("the page");
-    for name in ["runs-agree", "marked-when-steps-read", "fileRun"] {
+    for name in ["runs_agree", "marked_when_steps_read", "file_run"] {
         assert!(names.contains(&name), "{name} in {names:?}");
         assert!(promises.contains(&format!("`{name}`")));
     }

@@ -3,7 +3,7 @@
 //!
 //! usage: input [--seed S] [--count N]
 //!
-//! The program is target/bin/find of the repository (`rt check find` makes it), or the one that FIND names.
+//! The program is crates/find/out/find of the repository (`rt run` there makes it), or the one that FIND names.
 
 use std::ffi::OsString;
 use std::io::{self, Read, Write};
@@ -87,7 +87,7 @@ fn fed(way: &str, file: Vec<u8>, random: &mut Random) -> io::Result<String> {
 }
 
 fn program() -> Command {
-    let usual = concat!(env!("CARGO_MANIFEST_DIR"), "/../target/bin/find");
+    let usual = concat!(env!("CARGO_MANIFEST_DIR"), "/../crates/find/out/find");
     let path = std::env::var_os("FIND").unwrap_or_else(|| OsString::from(usual));
     Command::new(path)
 }
@@ -103,8 +103,6 @@ fn fed_bytes(file: Vec<u8>) -> io::Result<String> {
         for byte in &file {
             ours.send(&[*byte])?;
         }
-        // An empty packet ends one read; the program makes sure of the end by another.
-        ours.send(&[])?;
         ours.send(&[]).map(|_| ())
     };
     printed(child, writer)
