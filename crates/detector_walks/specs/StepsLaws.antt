@@ -10,7 +10,8 @@ use Rattle.bit_matrix.specs.Shape.{shape_of, size}
 use Rattle.bit_matrix.specs.ShapeClauses.{Limits}
 use Rattle.sines.specs.declared.Angle.{Angle}
 use Rattle.sines.specs.Sines.{sine_of, angle_of}
-use Rattle.sines.specs.Laws.{scaled, scaled_sine, scaled_cosine, negative, sine_mod, sine_mod_add, sine_rules}
+use Rattle.sines.specs.Laws.{scaled, scaled_sine, scaled_cosine, negative}
+use Rattle.sines.proofs.Laws.{sine_mod, sine_mod_add, sine_rules}
 use Rattle.reads.specs.EveryLaws.{every, every_at}
 use Rattle.detector_walks.specs.WalksClauses.{OfDegree}
 

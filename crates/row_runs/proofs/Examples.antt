@@ -16,7 +16,7 @@ use Rattle.detector_rows.specs.Rows.{skip_white, next_bullseye_by}
 use Rattle.detector_rows.specs.RowsClauses.{next_bullseye}
 use Rattle.reads.specs.Total.{total}
 use Rattle.row_runs.specs.RowRuns.{ColourRun, put_before, colour_runs, from_first_black, lengths, Window, Leftmost}
-use Rattle.row_runs.specs.RowSearchLaws.{eye_found, searched_runs}
+use Rattle.row_runs.proofs.RowSearchLaws.{eye_found, searched_runs}
 
 -- row 0 of an image with these columns: its pixels as bits of one word
 abbrev row_of : ℕ → ℕ → Bool

@@ -35,8 +35,8 @@ use Rattle.detector_first_window.specs.FirstWindowLaws.{row_colours, CountedRuns
 use Rattle.detector_rows.specs.Rows.{skip_white, next_bullseye_by}
 use Rattle.detector_rows.specs.RowsClauses.{next_bullseye}
 use Rattle.row_runs.specs.RowRuns.{ColourRun, Window, Leftmost, closing_column}
-use Rattle.row_runs.specs.WindowsLaws.{none_if}
-use Rattle.row_runs.specs.RowSearchLaws.{skips_to, eye_found, searched_runs, row_search, leftmost_reported}
+use Rattle.row_runs.proofs.WindowsLaws.{none_if}
+use Rattle.row_runs.proofs.RowSearchLaws.{skips_to, eye_found, searched_runs, row_search, leftmost_reported}
 
 -- ---- the scan reads column by column
 

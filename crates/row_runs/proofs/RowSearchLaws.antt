@@ -31,9 +31,9 @@ use Rattle.detector_rows.specs.RowsClauses.{next_bullseye}
 use Rattle.detector_rows.specs.RowsLaws.{closed_on, same_rows_f32}
 use Rattle.row_runs.specs.RowRuns.{ColourRun, put_before, one_column, colour_runs, columns, from_first_black, runs_from_black, run_at, lengths}
 use Rattle.row_runs.specs.RowRuns.{Window, Leftmost, closing_column, eye_at, RowAnswer, nowhere, leftmost}
-use Rattle.row_runs.specs.RowRunsLaws.{put_same, none_left, black_here, white_here, a_first_black, past_white, from_first_black_lem}
-use Rattle.row_runs.specs.WindowsLaws.{none_late, none_if, none_only_if, leftmost_is}
-use Rattle.row_runs.specs.ScanLaws.{runs_late, held_none, answer_same, scans}
+use Rattle.row_runs.proofs.RowRunsLaws.{put_same, none_left, black_here, white_here, a_first_black, past_white, from_first_black_lem}
+use Rattle.row_runs.proofs.WindowsLaws.{none_late, none_if, none_only_if, leftmost_is}
+use Rattle.row_runs.proofs.ScanLaws.{runs_late, held_none, answer_same, scans}
 
 -- ---- where the white ends
 

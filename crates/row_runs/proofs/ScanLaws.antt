@@ -25,8 +25,8 @@ use Rattle.detector_first_window.specs.FirstWindowClauses.{window_from}
 use Rattle.detector_first_window.specs.FirstWindowLaws.{row_colours}
 use Rattle.detector_first_window.specs.ColouredLaws.{colour_before}
 use Rattle.row_runs.specs.RowRuns.{ColourRun, put_before, one_column, colour_runs, run_at, lengths, Window, eye_at, RowAnswer, nowhere}
-use Rattle.row_runs.specs.RowRunsLaws.{by_colour, merged, put_same, put_other, Begins, put_begins, put_later, first_column_lem}
-use Rattle.row_runs.specs.WindowsLaws.{window_is, first_eleven, twelfth, first_dropped, first_answers, none_late}
+use Rattle.row_runs.proofs.RowRunsLaws.{by_colour, merged, put_same, put_other, Begins, put_begins, put_later, first_column_lem}
+use Rattle.row_runs.proofs.WindowsLaws.{window_is, first_eleven, twelfth, first_dropped, first_answers, none_late}
 
 -- ---- runs at or past a column
 
