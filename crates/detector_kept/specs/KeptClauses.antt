@@ -1,6 +1,5 @@
 -- What the clauses of functions name. Assumes nothing.
 use Rattle.std.specs.Prelude.{ℕ, ◌*◌, ◌≤◌, ◌≡◌, List, length, drop}
-use Rattle.records.specs.Fields as field
 use Rattle.records.specs.Records.{rows, laid_out}
 use Rattle.records.specs.RecordsClauses.{Each}
 use Rattle.detector_variances.specs.VariancesClauses.{Small}

@@ -5,7 +5,7 @@ use Rattle.std.specs.Prelude.{◌≡◌, ℕ, ◌+◌, ◌-◌, ◌*◌, ◌/◌
 use Rattle.std.proofs.Common.{sym, ap, ap₂, ◌∙◌, true≢false, le_trans, mul_comm, mul-le-mul_right, le_of_mul-le-mul_right, mul-pos, le-div_iff_mul-le, arith, lit<, ne_eqb, le-ltb}
 use Rattle.std.proofs.Math.Nat.{mul-sub, div-le_of_le-mul}
 use Rattle.std.specs.Float.{nan, inf, fin, Format}
-use Rattle.std.specs.Float.Ieee.{prec, low, up, down, round, neg, sum, add, sub, mul, div, of_int, to_unsigned, to_signed}
+use Rattle.std.specs.Float.Ieee.{prec, up, down, round, neg, sum, add, sub, mul, div, of_int, to_unsigned, to_signed}
 use Rattle.std.specs.Float.Ieee.Fits.{down_pos}
 use Rattle.std.specs.Float.Ieee.Back.{round_whole}
 use Rattle.std.specs.Float.Ieee.Order.{transfer, round_mono}

@@ -1,5 +1,5 @@
 -- The whole numbers between which a root lies. Assumes nothing.
-use Rattle.std.specs.Prelude.{◌≡◌, refl, Bool, true, false, ℕ, zero, suc, ◌+◌, ◌-◌, ◌*◌, ◌/◌, ◌^◌, ◌≤◌, ◌<◌, eqb, Float}
+use Rattle.std.specs.Prelude.{◌≡◌, refl, Bool, true, false, ℕ, zero, suc, ◌+◌, ◌*◌, ◌/◌, ◌^◌, ◌≤◌, ◌<◌, eqb, Float}
 use Rattle.std.proofs.Common.{sym, ◌∙◌, true≢false, le_antisymm, lt_of_not-le, mul-le-mul, mul-le-mul_right, mul-pos, zero-lt-suc, le-div_iff_mul-le, arith, eq-eqb}
 use Rattle.std.proofs.Math.Bool.{cond}
 use Rattle.std.proofs.Math.Nat.{div-le_of_le-mul}

@@ -25,12 +25,11 @@ pub loop-d-smaller : goal.loop-d-smaller
 loop-d-smaller c = omega (arith, some_left c)
 
 pub loop-d-preserved : goal.loop-d-preserved
-loop-d-preserved c =
-    (
-      scaling_step c.loop-d.d c.loop-d.e c.args.digits c.args.exponent (some_left c) c.loop-d.invariant.0,
-      omega arith,
-      omega arith,
-    )
+loop-d-preserved c = (
+  scaling_step c.loop-d.d c.loop-d.e c.args.digits c.args.exponent (some_left c) c.loop-d.invariant.0,
+  omega arith,
+  omega arith,
+)
 
 pub returns : goal.returns
 returns c = (c.loop-d.invariant.0, omega arith, omega arith, omega arith)
