@@ -6,14 +6,16 @@ use std::{
 
 const MOST_ARGUMENTS: usize = 7;
 
-/// The files of code under a folder.
+/// The files of code under a folder, but for what rt makes in out/.
 fn sources(folder: &Path) -> Vec<PathBuf> {
     let list = fs::read_dir(folder).unwrap_or_else(|error| panic!("{}: {error}", folder.display()));
     let mut found = Vec::new();
     for entry in list {
         let path = entry.expect("a folder is listed").path();
         if path.is_dir() {
-            found.extend(sources(&path));
+            if !path.ends_with("out") {
+                found.extend(sources(&path));
+            }
         } else if path.extension().is_some_and(|ending| ending == "rt") {
             found.push(path);
         }
