@@ -1,5 +1,4 @@
 -- `bit_matrix::get` meets its contract: past the last word nothing is read, and otherwise the shift and mask read the pixel's bit, and the union marks it.
---
 use mathlib.Core.Path.{◌≡◌, sym, ◌∙◌}
 use mathlib.Core.Bool.{false, not}
 use mathlib.Core.List.{List}

@@ -1,5 +1,4 @@
--- `bit_matrix::count_box` meets its contract. The invariant is `Counting`: from the present column, what is left of the definition ends as the whole does.
--- The measure is the columns left.
+-- `bit_matrix::count_box` meets its contract.
 use Prim.Native.Nat.{ℕ, suc, ◌+◌, ◌-◌, ◌^◌, ◌≤◌, ◌<◌}
 use mathlib.Core.Path.{◌≡◌, ◌∙◌}
 use mathlib.Core.List.{List, ◌++◌, flat_map}

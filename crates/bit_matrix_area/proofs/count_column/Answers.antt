@@ -1,5 +1,4 @@
--- `bit_matrix::count_column` meets its contract. The invariant is `Counting`: from the present row, what is left of the definition ends as the whole does.
--- The measure is the rows left.
+-- `bit_matrix::count_column` meets its contract.
 use Prim.Native.Nat.{ℕ, suc, ◌+◌, ◌-◌, ◌^◌, ◌≤◌, ◌<◌}
 use mathlib.Core.Path.{◌≡◌, ◌∙◌}
 use mathlib.Core.Bool.{Bool}

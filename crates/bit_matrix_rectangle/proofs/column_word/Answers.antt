@@ -1,4 +1,4 @@
--- `bit_matrix_rectangle::column_word` meets its contract. The invariant: a bit tells whether its column has a black pixel in a row so far.
+-- `bit_matrix_rectangle::column_word` meets its contract.
 use Prim.Native.Nat.{ℕ, ◌+◌, ◌*◌, ◌≤◌, ◌<◌}
 use native.Mathlib.Numerals.{add-one}
 use native.Mathlib.Omega.{arith}

@@ -1,4 +1,4 @@
--- `bit_matrix_rectangle::first_set` meets its contract. The invariant: each word before the present one is 0.
+-- `bit_matrix_rectangle::first_set` meets its contract.
 use Prim.Native.Nat.{ℕ, ◌+◌, ◌≤◌, ◌<◌}
 use native.Mathlib.Decide.{ℕ_discrete}
 use native.Mathlib.Omega.{arith}

@@ -1,4 +1,4 @@
--- `bit_matrix_rectangle::left` meets its contract. The invariant: each column of the words so far is white.
+-- `bit_matrix_rectangle::left` meets its contract.
 use Prim.Native.Nat.{ℕ, ◌+◌, ◌*◌, ◌-◌, ◌^◌, ◌≤◌, ◌<◌}
 use native.Mathlib.Decide.{dec_lt}
 use native.Mathlib.Omega.{arith}

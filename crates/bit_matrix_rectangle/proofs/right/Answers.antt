@@ -1,4 +1,4 @@
--- `bit_matrix_rectangle::right` meets its contract. The invariant: each column from the present word on is white.
+-- `bit_matrix_rectangle::right` meets its contract.
 use Prim.Native.Nat.{ℕ, suc, ◌+◌, ◌*◌, ◌-◌, ◌^◌, ◌≤◌, ◌<◌}
 use native.Mathlib.Decide.{dec_lt}
 use native.Mathlib.Omega.{arith}

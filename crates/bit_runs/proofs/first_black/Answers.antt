@@ -1,4 +1,4 @@
--- `bit_runs::first_black` meets its contract. The invariant: each column before the present one is white. The measure is the columns left.
+-- `bit_runs::first_black` meets its contract.
 use Prim.Native.Nat.{ℕ, ◌+◌, ◌-◌, ◌/◌, ◌%◌, ◌^◌, ◌≤◌, ◌<◌, min}
 use mathlib.Core.Bool.{true, false, not}
 use mathlib.Core.Path.{◌≡◌, sym, ap, ◌∙◌}

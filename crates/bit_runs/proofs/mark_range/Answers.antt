@@ -1,5 +1,4 @@
--- `bit_runs::mark_range` meets its contract. The invariant is `Marking`: the columns before the present one are marked. The measure is the columns left.
---
+-- `bit_runs::mark_range` meets its contract.
 use Prim.Native.Nat.{ℕ, ◌+◌, ◌-◌, ◌*◌, ◌/◌, ◌%◌, ◌≤◌, ◌<◌, min}
 use mathlib.Core.Path.{◌≡◌, refl, sym, ap, ◌∙◌}
 use mathlib.Core.List.{List}

@@ -1,5 +1,4 @@
 -- `bit_runs::mark_range` meets its contract. The invariant is `Marking`: the columns before the present one are marked. The measure is the columns left.
---
 use Prim.Native.Nat.{ℕ, ◌+◌, ◌-◌, ◌*◌, ◌≤◌}
 use mathlib.Core.Path.{◌≡◌}
 use mathlib.Core.List.{List}

@@ -1,4 +1,4 @@
--- `crop_padding::file_padded` meets its contract. The invariant: no row so far has a one in its padding.
+-- `crop_padding::file_padded` meets its contract.
 use Prim.Native.Nat.{ℕ, ◌*◌, ◌-◌, ◌%◌, ◌^◌, ◌≤◌, ◌<◌}
 use native.Mathlib.Nat.{one-mul}
 use native.Mathlib.Omega.{arith}

@@ -1,4 +1,4 @@
--- `crop_padding::words_padded` meets its contract. The invariant: no row so far has a one in its padding.
+-- `crop_padding::words_padded` meets its contract.
 use Prim.Native.Nat.{ℕ, ◌+◌, ◌*◌, ◌-◌, ◌/◌, ◌^◌, ◌≤◌, ◌<◌}
 use native.Mathlib.Omega.{arith}
 use mathlib.Core.Bool.{true, false}

@@ -1,4 +1,4 @@
--- `crop_rows::load_few` meets its contract. The invariant: the word has the bits of the bytes so far.
+-- `crop_rows::load_few` meets its contract.
 use Prim.Native.Nat.{◌+◌, ◌*◌}
 use native.Mathlib.Omega.{arith}
 use mathlib.Core.Path.{◌≡◌, refl, ap, ◌∙◌}

@@ -1,5 +1,4 @@
--- `crop_rows::unpack_rows` meets its contract. The invariant: the words before i are stored, i is word x of row y, and the rest is as it was.
---
+-- `crop_rows::unpack_rows` meets its contract.
 use Prim.Native.Nat.{ℕ, suc, ◌+◌, ◌*◌, ◌-◌, ◌/◌, ◌%◌, ◌≤◌, ◌<◌, min}
 use native.Mathlib.Nat.{mul-le-mul_right}
 use native.Mathlib.Decide.{dec_lt}

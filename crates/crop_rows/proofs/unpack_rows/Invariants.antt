@@ -1,5 +1,4 @@
 -- `crop_rows::unpack_rows` meets its contract. The invariant: the words before i are stored, i is word x of row y, and the rest is as it was.
---
 use Prim.Native.Nat.{ℕ, ◌+◌, ◌*◌, ◌-◌, ◌≤◌, ◌<◌}
 use mathlib.Core.List.{List, ◌++◌}
 use mathlib.Core.Path.{◌≡◌}

@@ -1,5 +1,4 @@
--- `detector_boxes::box_records` meets its contract. The invariant is `Boxing`: the records passed have their symbols, the others are as they were, and what
--- is left of the definition ends as the whole does. The measure is the records left.
+-- `detector_boxes::box_records` meets its contract.
 use Prim.Native.Nat.{ℕ, ◌+◌, ◌≤◌, ◌<◌, suc}
 use native.Mathlib.Nat.{add-zero}
 use native.Mathlib.Numerals.{add-one}

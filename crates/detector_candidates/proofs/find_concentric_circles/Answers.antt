@@ -1,5 +1,4 @@
--- `detector_candidates::find_concentric_circles` meets its contract. The invariant is `Sweeping`: with some fuel, what is left of the sweep ends as the whole
--- does, and only the candidates so far were written. The measure is the rows left.
+-- `detector_candidates::find_concentric_circles` meets its contract.
 use Prim.Native.Nat.{ℕ}
 use mathlib.Core.Path.{refl}
 use mathlib.Core.List.{List}

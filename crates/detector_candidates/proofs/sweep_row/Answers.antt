@@ -1,6 +1,4 @@
--- `detector_candidates::sweep_row` meets its contract. The invariant is `Sweeping`: with some fuel, what is left of the row ends as the whole does, and only
--- the candidates so far were written. That a turn moves to the right, and so has fuel, is a fact of the definition of a search. The measure is the columns
--- left.
+-- `detector_candidates::sweep_row` meets its contract.
 use Prim.Native.Nat.{ℕ, ◌<◌}
 use mathlib.Core.Path.{refl}
 use mathlib.Core.List.{List}

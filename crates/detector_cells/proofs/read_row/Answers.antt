@@ -1,4 +1,4 @@
--- `detector_cells::read_row` meets its contract. The invariant: the cells before x are read.
+-- `detector_cells::read_row` meets its contract.
 use Prim.Native.Nat.{ℕ, ◌+◌, ◌*◌, ◌-◌, ◌/◌, ◌%◌, ◌^◌, ◌≤◌, ◌<◌, min}
 use native.Mathlib.Nat.{mul-le-mul}
 use native.Mathlib.Numerals.{add-one}

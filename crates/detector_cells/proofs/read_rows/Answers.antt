@@ -1,4 +1,4 @@
--- `detector_cells::read_rows` meets its contract. The invariant: the words before y are stored, and the rest is as it was.
+-- `detector_cells::read_rows` meets its contract.
 use Prim.Native.Nat.{ℕ, ◌+◌, ◌≤◌, ◌<◌}
 use native.Mathlib.Omega.{arith}
 use mathlib.Core.List.{List}

@@ -1,5 +1,4 @@
--- `detector_colours::test_degree` meets its contract. The invariant is `Testing`: from the present point, what is left of the definition ends as the whole
--- does. The measure is the points left.
+-- `detector_colours::test_degree` meets its contract.
 use Prim.Native.Nat.{ℕ, suc, ◌+◌, ◌-◌, ◌≤◌, ◌<◌}
 use mathlib.Core.Bool.{Bool, true, false}
 use mathlib.Core.List.{List}

@@ -1,5 +1,4 @@
--- `detector_columns::get_column_vector` meets its contract. The invariant is `Looking`: from the present row, what is left of the definition ends as the
--- whole does, and a run has room for the rows left. The measure is the rows left.
+-- `detector_columns::get_column_vector` meets its contract.
 use Prim.Native.Nat.{ℕ, suc, ◌+◌, ◌-◌, ◌^◌, ◌≤◌, ◌<◌}
 use mathlib.Core.Path.{◌≡◌, refl}
 use mathlib.Core.Bool.{Bool, true, false, cond}

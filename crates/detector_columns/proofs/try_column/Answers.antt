@@ -1,5 +1,4 @@
 -- `detector_columns::try_column` meets its contract: the calls' runs, one after the other. The bound on the runs keeps the middle one in a u32.
---
 use Prim.Native.Nat.{ℕ, ◌+◌, ◌^◌, ◌≤◌, ◌<◌}
 use mathlib.Core.Path.{◌≡◌, ap}
 use mathlib.Core.Bool.{Bool, true, false}

@@ -1,5 +1,4 @@
--- `detector_degrees::try_offsets` meets its contract. The invariant is `Trying`: from the present degree, what is left of the definition ends as the whole
--- does. The measure is the degrees left.
+-- `detector_degrees::try_offsets` meets its contract.
 use Rattle.std.proofs.Common.{◌≡◌, ℕ, suc, ◌+◌, ◌-◌, ◌*◌, ◌<◌, ◌≤◌, List, length, ◌∙◌, arith}
 use Rattle.reads.specs.Reads.{Reads}
 use Rattle.reads.specs.RunsClauses.{Ran}

@@ -1,5 +1,4 @@
--- `detector_ellipse::good_points_of` meets its contract, by the invariant of a loop over the widths; each adds two points at most. The measure is the widths
--- left.
+-- `detector_ellipse::good_points_of` meets its contract.
 use Rattle.std.proofs.Common.{rules}
 use Rattle.detector_ellipse.proofs.good_points_of.Invariants.{begins, counted, few, onward, room}
 use Rattle.detector_ellipse.proofs.good_points_of.Goals as goal

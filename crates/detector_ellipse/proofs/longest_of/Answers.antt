@@ -1,4 +1,4 @@
--- `detector_ellipse::longest_of` meets its contract, by the invariant of a loop over the widths. The measure is the widths left.
+-- `detector_ellipse::longest_of` meets its contract.
 use Rattle.std.proofs.Common.{◌≡◌, ℕ, ◌+◌, ◌<◌, ◌≤◌, max, List, length, get_or, ◌∙◌, arith, rules}
 use Rattle.detector_walks.specs.declared.Width.{Width}
 use Rattle.detector_ellipse.specs.Ellipse.{longest}

@@ -1,5 +1,4 @@
 -- `detector_ellipse::passes` meets its contract, by its test. The literal 1.0, which the code has by its pattern, is `real64 1` once both are unfolded.
---
 use Rattle.std.proofs.Common.{◌≡◌, ℕ, ◌≤◌, Bool, true, false, cond, not, sym, ap, ◌∙◌, arith}
 use lib.Ieee.{Float, lt, of_bits, of_int}
 use Rattle.ieee.specs.Whole.{real64}

@@ -1,4 +1,4 @@
--- `detector_ellipse::shortest_of` meets its contract, by the invariant of a loop over the widths. The measure is the widths left.
+-- `detector_ellipse::shortest_of` meets its contract.
 use Rattle.std.proofs.Common.{◌≡◌, ℕ, suc, ◌+◌, ◌<◌, ◌≤◌, min, List, [], ◌∷◌, length, get_or, drop, refl, arith, rules}
 use Rattle.detector_walks.specs.declared.Width.{Width}
 use Rattle.detector_ellipse.specs.Ellipse.{shortest}

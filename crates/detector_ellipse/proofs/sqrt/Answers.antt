@@ -1,5 +1,4 @@
--- `detector_ellipse::sqrt` meets its contract: the root lies between two numbers until they are neighbours. The measure is how far they are apart.
---
+-- `detector_ellipse::sqrt` meets its contract: the root lies between two numbers until they are neighbours.
 use Rattle.std.proofs.Common.{◌≡◌, ℕ, ◌+◌, ◌-◌, ◌*◌, ◌/◌, ◌^◌, ◌<◌, ◌≤◌, mul-le-mul, le_antisymm, arith, rules}
 use Rattle.ieee_sqrt.specs.Sqrt.{isqrt}
 use Rattle.ieee_sqrt.specs.IsqrtLaws.{IsRoot, isqrt_is, root_at_least}

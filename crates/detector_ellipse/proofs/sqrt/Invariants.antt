@@ -1,5 +1,4 @@
 -- `detector_ellipse::sqrt` meets its contract: the root lies between two numbers until they are neighbours. The measure is how far they are apart.
---
 use Rattle.std.proofs.Common.{ℕ, ◌-◌, ◌*◌, ◌<◌, ◌≤◌}
 use Rattle.detector_ellipse.proofs.sqrt.Given as goal
 

@@ -1,5 +1,4 @@
--- `detector_ellipse::widths_about` meets its contract. The invariant is `Walking`: the widths walked stand in their places, and what is left of the definition
--- ends as the whole does. The measure is the walks left.
+-- `detector_ellipse::widths_about` meets its contract.
 use Rattle.std.proofs.Common.{◌≡◌, ℕ, suc, ◌+◌, ◌-◌, ◌*◌, ◌<◌, ◌≤◌, List, [], ◌∷◌, ◌++◌, length, take, set, ap, ◌∙◌, add-one, arith, length-set, take_all, take-suc-set, rules}
 use lib.Ieee.{Float}
 use Rattle.reads.specs.RunsClauses.{Ran}

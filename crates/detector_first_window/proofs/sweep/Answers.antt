@@ -1,5 +1,4 @@
--- `detector_first_window::sweep` meets its contract. The invariant is `Sweeping`. The measure is the columns left, and those whose changes are not
--- known.
+-- `detector_first_window::sweep` meets its contract.
 use mathlib.Core.Path.{refl}
 use native.Mathlib.Omega.{arith}
 use borrow.Author.Rules.{rules}

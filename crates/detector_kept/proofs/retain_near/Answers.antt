@@ -1,5 +1,4 @@
--- `detector_kept::retain_near` meets its contract. The invariant: the front holds what is retained of the records passed, and the others are
--- unmoved.
+-- `detector_kept::retain_near` meets its contract.
 use Rattle.detector_kept.proofs.Retaining.{begins, retained_passed, taken, over}
 use Rattle.detector_kept.proofs.retain_near.Goals as goal
 

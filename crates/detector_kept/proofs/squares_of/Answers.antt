@@ -1,4 +1,4 @@
--- `detector_kept::squares_of` meets its contract. The invariant: what is left, added to the sum, gives the whole.
+-- `detector_kept::squares_of` meets its contract.
 use Rattle.detector_kept.specs.Spread.{with_square}
 use Rattle.detector_kept.proofs.Columns.{squares_begin, squares_onward, squares_over}
 use Rattle.detector_kept.proofs.squares_of.Goals as goal

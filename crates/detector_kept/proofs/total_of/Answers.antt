@@ -1,4 +1,4 @@
--- `detector_kept::total_of` meets its contract. The invariant: with the sum of what is left, it is the whole sum.
+-- `detector_kept::total_of` meets its contract.
 use Rattle.detector_kept.proofs.Columns.{sum_begins, sum_fits, sum_onward, sum_over}
 use Rattle.detector_kept.proofs.total_of.Goals as goal
 

@@ -1,5 +1,4 @@
--- `detector_turn::try_scales` meets its contract. The invariant is `Trying`: from the present scale and circle, what is left of the definition ends as
--- the whole does. The measure is the scales left.
+-- `detector_turn::try_scales` meets its contract.
 use Prim.Native.Nat.{ℕ, suc, ◌+◌, ◌-◌, ◌≤◌, ◌<◌}
 use mathlib.Core.Bool.{Bool, true, false}
 use mathlib.Core.List.{List}

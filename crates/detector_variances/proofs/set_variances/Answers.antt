@@ -1,5 +1,4 @@
--- `detector_variances::set_variances` meets its contract. The invariant: the records passed have their variance, and the others are as they were.
---
+-- `detector_variances::set_variances` meets its contract.
 use Rattle.detector_variances.proofs.Varying.{begins, small, onward, over}
 use borrow.Author.Rules.{rules}
 use Rattle.detector_variances.proofs.set_variances.Goals as goal

@@ -1,5 +1,4 @@
 -- `detector_variances::set_variances` meets its contract. The invariant: the records passed have their variance, and the others are as they were.
---
 use Prim.Native.Nat.{◌-◌}
 use Rattle.detector_variances.proofs.Varying.{Varying}
 use Rattle.detector_variances.proofs.set_variances.Given as goal

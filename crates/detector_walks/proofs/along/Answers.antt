@@ -1,5 +1,4 @@
--- `detector_walks::along` meets its contract: the numbers are listed one after another. The remainder leaves each column as it is. The
--- measure is the numbers left.
+-- `detector_walks::along` meets its contract: the numbers are listed one after another.
 use Prim.Native.Nat.{ℕ, ◌+◌, ◌%◌, ◌^◌, ◌≤◌, ◌<◌}
 use mathlib.Core.Bool.{false}
 use mathlib.Core.List.{List}

@@ -1,5 +1,4 @@
--- `detector_walks::back` meets its contract. The invariant is `Walking`: from the present column, what is left of the definition ends as the whole does.
--- The measure is the column.
+-- `detector_walks::back` meets its contract.
 use Prim.Native.Nat.{ℕ, ◌-◌, ◌<◌}
 use mathlib.Core.Logic.{◌≢◌}
 use native.Mathlib.Omega.{arith}

@@ -1,4 +1,4 @@
--- `detector_walks::step_back` meets its contract, by the invariant of so many steps (`Joins.antt`). The measure is the steps left.
+-- `detector_walks::step_back` meets its contract.
 use borrow.Author.Rules.{rules}
 use Rattle.detector_walks.proofs.Joins.{steps_begin, count_on, count_stop, count_over}
 use Rattle.detector_walks.proofs.step_back.Goals as goal

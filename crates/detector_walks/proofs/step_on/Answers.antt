@@ -1,4 +1,4 @@
--- `detector_walks::step_on` meets its contract, by the invariant of so many steps (`Joins.antt`). The measure is the steps left.
+-- `detector_walks::step_on` meets its contract.
 use Prim.Native.Nat.{ℕ}
 use mathlib.Core.List.{List}
 use mathlib.Core.Path.{subst}

@@ -1,5 +1,4 @@
--- `detector_walks::stride_on` meets its contract, by the invariant of so many steps (`Joins.antt`), each by the numbers that are listed for its column. The
--- measure is the steps left.
+-- `detector_walks::stride_on` meets its contract.
 use Prim.Native.Nat.{ℕ, ◌+◌, ◌-◌, ◌^◌, ◌<◌}
 use mathlib.Core.Bool.{Bool}
 use mathlib.Core.List.{List}

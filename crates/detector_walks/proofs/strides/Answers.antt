@@ -1,5 +1,4 @@
--- `detector_walks::strides` meets its contract. The invariant is `Walking`: from the present column, what is left of the definition ends as the whole does.
--- The measure is the columns up to the one where the walk has ended at the latest, past which no stride ends.
+-- `detector_walks::strides` meets its contract.
 use Rattle.detector_walks.proofs.strides.Invariants.{begins, fewer, onward, stops}
 use Rattle.detector_walks.proofs.strides.Goals as goal
 

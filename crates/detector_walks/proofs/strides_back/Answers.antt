@@ -1,5 +1,4 @@
--- `detector_walks::strides_back` meets its contract. The invariant is `Walking`: from the present column, what is left of the definition ends as the whole
--- does. The measure is the column.
+-- `detector_walks::strides_back` meets its contract.
 use Prim.Native.Nat.{ℕ, ◌-◌, ◌≤◌, ◌<◌}
 use native.Mathlib.Omega.{arith}
 use borrow.Author.Rules.{rules}

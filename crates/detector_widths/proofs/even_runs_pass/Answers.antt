@@ -1,5 +1,4 @@
 -- `detector_widths::even_runs_pass` meets its contract: what the calls ensure, put together.
---
 use Rattle.detector_widths.specs.Widths.{even_runs_pass}
 use Rattle.detector_widths.proofs.even_runs_pass.Goals as goal
 

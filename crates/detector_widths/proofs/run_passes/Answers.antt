@@ -1,5 +1,4 @@
 -- `detector_widths::run_passes` meets its contract: the run as `run` ensures it, tested.
---
 use Rattle.detector_widths.proofs.run_passes.Goals as goal
 
 pub returns : goal.returns

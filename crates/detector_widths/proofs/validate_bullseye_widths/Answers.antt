@@ -1,5 +1,4 @@
 -- `detector_widths::validate_bullseye_widths` meets its contract: what the two calls ensure, put together.
---
 use Rattle.detector_widths.specs.Widths.{valid_widths}
 use Rattle.detector_widths.proofs.validate_bullseye_widths.Goals as goal
 

@@ -1,4 +1,4 @@
--- `detector_window::sum` meets its contract. The invariant: the sum and the runs left are all.
+-- `detector_window::sum` meets its contract.
 use Prim.Native.Nat.{ℕ, suc, ◌+◌, ◌^◌, ◌≤◌, ◌<◌}
 use mathlib.Core.Path.{◌≡◌}
 use mathlib.Core.List.{List, []}

@@ -1,4 +1,4 @@
--- `ieee_sqrt::root_of` meets its contract. Each turn finds a binary digit (`Steps.antt`). The measure is the place of the last one.
+-- `ieee_sqrt::root_of` meets its contract.
 use native.Mathlib.Omega.{arith}
 use Rattle.ieee_sqrt.proofs.Steps.{rooting_start, rooting_taken, rooting_left, rooting_end}
 use Rattle.ieee_sqrt.proofs.root_of.Goals as goal

@@ -1,4 +1,4 @@
--- `ieee_sqrt::scaled_up` meets its contract. Each turn keeps digits * 2 ^ exponent, and the exponent is the measure.
+-- `ieee_sqrt::scaled_up` meets its contract.
 use Prim.Native.Nat.{◌≤◌}
 use native.Mathlib.Omega.{arith}
 use mathlib.Core.Path.{refl}

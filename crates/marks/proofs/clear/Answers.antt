@@ -1,4 +1,4 @@
--- `bit_matrix::clear` meets its contract. The invariant: the first i words are zero, and the others as they were.
+-- `bit_matrix::clear` meets its contract.
 use Prim.Native.Nat.{ℕ}
 use mathlib.Core.Path.{◌≡◌, ap, ◌∙◌}
 use mathlib.Core.List.{List, ◌++◌, append-nil}

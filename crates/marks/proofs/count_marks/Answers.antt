@@ -1,4 +1,4 @@
--- `bit_matrix::count_marks` meets its contract. The invariant: the count so far and the one bits of the words left make the whole number.
+-- `bit_matrix::count_marks` meets its contract.
 use Prim.Native.Nat.{ℕ, ◌+◌, ◌≤◌, ◌<◌}
 use mathlib.Core.Path.{◌≡◌, ap}
 use mathlib.Core.List.{List}

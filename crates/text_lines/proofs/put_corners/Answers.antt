@@ -1,4 +1,4 @@
--- `text_lines::put_corners` meets its contract. The invariant is `Corners`: the words of the corners so far are put.
+-- `text_lines::put_corners` meets its contract.
 use borrow.Author.Rules.{rules}
 use Rattle.text_lines.proofs.Corners.{corners_begin, corners_more, corners_end}
 use Rattle.text_lines.proofs.put_corners.Goals as goal

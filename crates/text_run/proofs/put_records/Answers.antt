@@ -1,4 +1,4 @@
--- `text_run::put_records` meets its contract. The invariant is `Lines`: the lines of the records so far are put.
+-- `text_run::put_records` meets its contract.
 use borrow.Author.Rules.{rules}
 use Rattle.text_run.proofs.Listed.{lines_begin, lines_then, lines_end}
 use Rattle.text_run.proofs.put_records.Goals as goal

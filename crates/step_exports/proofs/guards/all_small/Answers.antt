@@ -1,4 +1,4 @@
--- `step_exports::guards::all_small` meets its contract. The invariant is that the words so far are small, the measure the words left.
+-- `step_exports::guards::all_small` meets its contract.
 use Prim.Native.Nat.{ℕ, ◌+◌, ◌≤◌, ◌<◌}
 use native.Mathlib.Omega.{arith}
 use mathlib.Core.Bool.{true, false}

@@ -1,5 +1,4 @@
--- `step_exports::sweep::count_row` meets its contract. The invariant is `Counting`: from the present column, what is left of the definition ends as the
--- whole does. The measure is the columns left.
+-- `step_exports::sweep::count_row` meets its contract.
 use Prim.Native.Nat.{ℕ, suc, ◌+◌, ◌-◌, ◌^◌, ◌≤◌, ◌<◌}
 use mathlib.Core.Path.{◌≡◌}
 use mathlib.Core.Bool.{Bool}
