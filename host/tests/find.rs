@@ -62,14 +62,16 @@ fn piped(input: &[u8]) -> String {
     text
 }
 
-/// The same, a byte to a read: each is a packet, and an empty packet is the end.
+/// The same, a byte to a read: each is a packet. An empty packet ends one read, and the program makes sure of the end by another.
 fn byte_by_byte(input: &[u8]) -> String {
     let (ours, theirs) = UnixDatagram::pair().expect("a pair of sockets");
     let child = started(Stdio::from(OwnedFd::from(theirs)));
     for byte in input {
         ours.send(&[*byte]).expect("the byte is sent");
     }
-    ours.send(&[]).expect("the end is sent");
+    for _ in 0..2 {
+        ours.send(&[]).expect("the end is sent");
+    }
     printed(child)
 }
 

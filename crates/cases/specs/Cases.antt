@@ -170,7 +170,7 @@ pub record Cases : Type 0 where
   pub column_10 : (cells : List ℕ) → cells_in 33 (replicate 33 (2 ^ 32 + 2 ^ 10 + 1)) cells ≡ cells_run 0 (by_turns_of (2 ^ 29 + 2 ^ 9 + 1) (2 ^ 29 + 2 ^ 9))
   pub column_11 : (cells : List ℕ) → cells_in 33 (replicate 33 (2 ^ 32 + 2 ^ 11 + 1)) cells ≡ cells_run 0 (by_turns_of (2 ^ 29 + 2 ^ 10 + 1) (2 ^ 29))
   -- two rows, the first of them black: half a row is added before the division by 33
-  pub two_rows_lem : (cells : List ℕ)
+  pub two_rows : (cells : List ℕ)
       → cells_in 33 (full_row ∷ (2 ^ 32 + 1) ∷ []) cells ≡ cells_run 0 (replicate 16 full_cells ++ drop 16 (by_turns_of (2 ^ 29 + 1) (2 ^ 29)))
   -- black rows 0 and 32, and the same a row further down, where row 33 is not reached
   pub rows_0_and_32 : (cells : List ℕ)
@@ -224,7 +224,7 @@ cases = record {
   three_columns_on = λ cells. refl;
   column_10 = λ cells. refl;
   column_11 = λ cells. refl;
-  two_rows_lem = λ cells. refl;
+  two_rows = λ cells. refl;
   rows_0_and_32 = λ cells. refl;
   rows_1_and_33 = λ cells. refl;
 }

@@ -19,7 +19,7 @@ const CLOSED_PIPE: u8 = 141;
 // What could not be done: reading the input, or writing what is printed.
 #[derive(Drop)]
 enum Failure {
-    Input(io::Error),
+    Input,
     Output(io::Error),
 }
 
@@ -59,6 +59,12 @@ fn put_lines(file: &[u8], text: &mut [u8]) -> usize
     )
 }
 
+// Whether an input has ended: the read after its last byte gives none.
+fn has_ended<R: Read>(reader: &mut R) -> bool {
+    let mut byte = [0u8; 1];
+    matches!(reader.read(&mut byte), Ok(0))
+}
+
 // Reads an input and writes all that is printed of it. Of a longer input 65,536 bytes are read: no accepted crop has more than 64,004, and the rest does not
 // change what is printed.
 fn find<R: Read, W: Write>(reader: &mut R, writer: &mut W) -> Result<(), Failure>
@@ -68,8 +74,11 @@ fn find<R: Read, W: Write>(reader: &mut R, writer: &mut W) -> Result<(), Failure
     let mut input = [0u8; 65536];
     let n = match input::read_full(reader, &mut input) {
         Ok(n) => n,
-        Err(e) => return Err(Failure::Input(e)),
+        Err(_) => return Err(Failure::Input),
     };
+    if n < input.len() && !has_ended(reader) {
+        return Err(Failure::Input);
+    }
     let mut text = [0u8; 80080];
     let end = put_lines(&input[..n], &mut text);
     match writer.write_all(&text[..end]) {
@@ -87,7 +96,7 @@ fn complain(rt: &impl Eprint, line: &str) {
 fn main(rt: HostRuntime) -> ExitCode {
     match find(&mut rt.stdin(), &mut rt.stdout()) {
         Ok(()) => ExitCode::SUCCESS,
-        Err(Failure::Input(_)) => {
+        Err(Failure::Input) => {
             complain(&rt, "find: standard input cannot be read");
             ExitCode::SUCCESS
         }

@@ -1,2 +1,2 @@
-// Reading programs: the definitions in specs/ that every reading function's contract cites. No code.
+// Reading programs: the definitions in specs/ that every reading function's contract cites, and their laws in proofs/. No code.
 #![tactic(auto)]

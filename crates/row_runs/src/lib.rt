@@ -1,2 +1,2 @@
-// The colour runs of a row, and the row search of detector_rows said over them, in specs/. No code.
+// The colour runs of a row, in specs/, and the row search of detector_rows said over them, in proofs/. No code.
 #![tactic(auto)]

@@ -1,4 +1,5 @@
--- The rules of the sines hold: each is a test of all degrees, computed on the table. Assumes nothing.
+-- The rules of the table hold at every degree (`sine_rules`): each is one test that antt computes over the 360 entries. And a degree counts modulo 360
+-- (`sine_mod`). Assumes nothing.
 use Rattle.std.specs.Prelude.{◌≡◌, Bool, false, ◌&&◌, ℕ, ◌+◌, ◌*◌, ◌%◌, ◌^◌, ◌<◌, T, eqb, leb, ℤ, pos, negsuc, nat_abs, ◌+ℤ◌, ◌-ℤ◌, ◌*ℤ◌, Float}
 use Rattle.std.proofs.Common.{sym, ◌∙◌, mod-lt, eqb→eq, leb→le, lit<}
 use Rattle.std.proofs.Math.Path.{ap, subst}

@@ -1,5 +1,4 @@
--- The rules of the table (docs/MANUAL.md, "How a search decides") hold at every degree (`sine_rules`): each is one test that antt computes over the
--- 360 entries, as whole numbers of 2 ^ -29. And a degree counts modulo 360 (`sine_mod`). Assumes nothing.
+-- The rules of the table (docs/MANUAL.md, "How a search decides"), for a degree, with sines as whole numbers of 2 ^ -29. Definitions only.
 use Rattle.std.specs.Prelude.{◌≡◌, Bool, true, false, cond, ℕ, ◌+◌, ◌*◌, ◌/◌, ◌^◌, ◌≤◌, ℤ, pos, negsuc, nat_abs, ◌+ℤ◌, ◌-ℤ◌, ◌*ℤ◌, Float}
 use Rattle.std.proofs.Math.IntN.{neg_ℤ}
 use Rattle.std.specs.Float.{nan, inf, fin}

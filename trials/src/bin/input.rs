@@ -103,6 +103,8 @@ fn fed_bytes(file: Vec<u8>) -> io::Result<String> {
         for byte in &file {
             ours.send(&[*byte])?;
         }
+        // An empty packet ends one read; the program makes sure of the end by another.
+        ours.send(&[])?;
         ours.send(&[]).map(|_| ())
     };
     printed(child, writer)
