@@ -59,11 +59,6 @@ module _ (shape : Shape) (words : List ℕ) (x : ℕ) (ok : ImageAccepted shape 
         (test_or word v k ∙ or_last_first (test_bit word k) (test_bit v k) ∙ ap₂ (λ (b c : Bool). cond b true c) (sym (black_word ok x k y h)) (joined.bits k h));
   }
 
-inside_at : (c : In-loop-y)
-    → c.loop-y.y * c.args.shape.row_words + c.args.x < length c.args.words.now
-inside_at c =
-    inside c.args.shape c.args.words.now c.args.x c.requires.0 c.requires.2 c.loop-y.y (omega (arith, c.requires.1.most))
-
 pub loop-y-init : goal.loop-y-init
 loop-y-init c = search begins
 
