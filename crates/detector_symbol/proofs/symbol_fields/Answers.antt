@@ -38,4 +38,4 @@ pub loop-i-preserved : goal.loop-i-preserved
 loop-i-preserved c = one_more _ _ _ c.loop-i.invariant c.store_corner.ensures
 
 pub returns : goal.returns
-returns c = stored _ _ c.requires c.from.ensures c.scale.ensures c.rotation_bits.ensures c.loop-i-test.false c.loop-i.auto.i-end c.loop-i.invariant
+returns c = search stored
