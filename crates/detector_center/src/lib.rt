@@ -9,6 +9,7 @@ ghost use Rattle.detector_center.specs.Center.{find_center, corrected};
 
 use bit_matrix::Shape;
 use rxing_result_point::{Point, PointU};
+use sines::Sines;
 
 // The centre of the circle through three points. The quotients are NaN or infinite where no circle goes through them.
 pub fn find_center(p1: Point, p2: Point, p3: Point) -> Point
@@ -39,13 +40,13 @@ pub fn corrected_center(
     marks: &mut [u64],
     shape: Shape,
     center: PointU,
-    table: &[f32; 360],
+    sines: &Sines,
 ) -> PointU
-    requires { Lent shape words.now marks.old center table.now }
+    requires { Lent shape words.now marks.old center }
     ensures { Ran (corrected shape center) words.now marks.old result marks.new }
 {
-    let first = detector_walks::find_width_at_degree(words, marks, shape, center, table, 7);
-    let second = detector_walks::find_width_at_degree(words, marks, shape, center, table, 97);
+    let first = detector_walks::find_width_at_degree(words, marks, shape, center, sines, 7);
+    let second = detector_walks::find_width_at_degree(words, marks, shape, center, sines, 97);
     let found = find_center(first.left, first.right, second.left);
     rxing_result_point::round_to_point_u(found)
 }

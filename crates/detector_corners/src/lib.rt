@@ -2,15 +2,15 @@
 #![tactic(auto)]
 
 ghost use Rattle.std.specs.Prelude.{◌≡◌};
-ghost use Rattle.sines.specs.Sines.{sines};
 ghost use Rattle.detector_boundary.specs.BoundaryClauses.{Placed};
-ghost use Rattle.detector_corners.specs.Corners.{corner, plain_corners, turned_corners, corners_of};
+ghost use Rattle.detector_corners.specs.Corners.{corner, corner_by, corners_of};
 
 use detector_boundary::Boundary;
 use detector_outcome::{Outcome, Turn};
 use rxing_result_point::{Point, PointU};
+use sines::Sines;
 
-fn corner_of(x: u32, y: u32) -> Point
+fn plain_corner(x: u32, y: u32) -> Point
     ensures { result ≡ corner x y }
 {
     Point {
@@ -19,63 +19,29 @@ fn corner_of(x: u32, y: u32) -> Point
     }
 }
 
-// The source's `naive_box`.
-fn plain_corners(b: Boundary) -> [Point; 4]
-    ensures { result ≡ plain_corners b }
+// A corner by a symbol's turn: turned about the turn's centre, plain, or none. The source casts one that is turned to f32 and back, which changes none up
+// to 2,048.
+fn corner_by(turn: Turn, x: u32, y: u32, sines: &Sines) -> Point
+    ensures { result ≡ corner_by turn x y }
 {
-    [
-        corner_of(b.left, b.bottom),
-        corner_of(b.left, b.top),
-        corner_of(b.right, b.bottom),
-        corner_of(b.right, b.top),
-    ]
+    match turn.outcome {
+        Outcome::Turned { degree, .. } => {
+            rxing_result_point::get_point(turn.center, PointU { x, y }, sines, degree)
+        }
+        Outcome::NoTurn | Outcome::LostCentre { .. } => plain_corner(x, y),
+        Outcome::Ellipse => plain_corner(0, 0),
+    }
 }
 
-// The corners turned about a centre. The source casts each to f32 and back, which changes none up to 2,048.
-fn turned_corners(b: Boundary, center: PointU, table: &[f32; 360], degree: u32) -> [Point; 4]
-    requires { Placed b × (table.now ≡ sines) }
-    ensures { result ≡ turned_corners b center degree }
-{
-    let left_bottom = PointU {
-        x: b.left,
-        y: b.bottom,
-    };
-    let left_top = PointU {
-        x: b.left,
-        y: b.top,
-    };
-    let right_bottom = PointU {
-        x: b.right,
-        y: b.bottom,
-    };
-    let right_top = PointU {
-        x: b.right,
-        y: b.top,
-    };
-    [
-        rxing_result_point::get_point(center, left_bottom, table, degree),
-        rxing_result_point::get_point(center, left_top, table, degree),
-        rxing_result_point::get_point(center, right_bottom, table, degree),
-        rxing_result_point::get_point(center, right_top, table, degree),
-    ]
-}
-
-// The corners of a symbol by its turn: turned about the turn's centre, plain, or none.
-pub fn corners_of(b: Boundary, turn: Turn, table: &[f32; 360]) -> [Point; 4]
-    requires { Placed b × (table.now ≡ sines) }
+// The corners of a symbol by its turn, in the order of the source's `naive_box`.
+pub fn corners_of(b: Boundary, turn: Turn, sines: &Sines) -> [Point; 4]
+    requires { Placed b }
     ensures { result ≡ corners_of b turn }
 {
-    let outcome = turn.outcome;
-    let none = Boundary {
-        left: 0,
-        right: 0,
-        top: 0,
-        bottom: 0,
-    };
-    match outcome {
-        Outcome::Turned(_) => turned_corners(b, turn.center, table, turn.degree),
-        Outcome::NoTurn => plain_corners(b),
-        Outcome::LostCentre => plain_corners(b),
-        Outcome::Ellipse => plain_corners(none),
-    }
+    [
+        corner_by(turn, b.left, b.bottom, sines),
+        corner_by(turn, b.left, b.top, sines),
+        corner_by(turn, b.right, b.bottom, sines),
+        corner_by(turn, b.right, b.top, sines),
+    ]
 }

@@ -5,7 +5,7 @@ use Rattle.std.proofs.Common.{arith}
 use Rattle.detector_outcome.specs.declared.Outcome.{Outcome}
 use Rattle.detector_outcome.specs.declared.Outcome.TheVariants.{Turned, NoTurn, LostCentre, Ellipse}
 use Rattle.detector_outcome.specs.declared.Turn.{Turn}
-use Rattle.detector_outcome.specs.Outcomes.{if_outcome, outcome_number, quarter_of, class_of}
+use Rattle.detector_outcome.specs.Outcomes.{if_outcome, outcome_number, degree_of, quarter_of, class_of}
 
 pub quarter_low : (degree : ℕ) → quarter_of degree < 4
 unfolding quarter_of
@@ -27,12 +27,12 @@ classed_with degree = record {
   most = omega (arith, quarter_low degree);
 }
 
-pub class_by_outcome : (turn : Turn) → Classed (outcome_number turn.outcome) turn.degree (class_of turn)
+pub class_by_outcome : (turn : Turn) → Classed (outcome_number turn.outcome) (degree_of turn.outcome) (class_of turn)
 class_by_outcome turn = by turn.outcome
   where
     by : (outcome : Outcome)
-        → Classed (outcome_number outcome) turn.degree (if_outcome (λ rotation. quarter_of turn.degree) 4 4 4 outcome)
-    by (Turned rotation) = classed_with turn.degree
-    by NoTurn = classed_without 0 turn.degree (λ e. omega arith)
-    by LostCentre = classed_without 2 turn.degree (λ e. omega arith)
-    by Ellipse = classed_without 3 turn.degree (λ e. omega arith)
+        → Classed (outcome_number outcome) (degree_of outcome) (if_outcome (λ degree scale. quarter_of degree) 4 (λ scale. 4) 4 outcome)
+    by (Turned degree scale) = classed_with degree
+    by NoTurn = classed_without 0 0 (λ e. omega arith)
+    by (LostCentre scale) = classed_without 2 0 (λ e. omega arith)
+    by Ellipse = classed_without 3 0 (λ e. omega arith)

@@ -30,18 +30,14 @@ pub fn symbol_fields(fields: &mut [u32; 40], symbol: Symbol)
     requires { length fields.old ≡ 40 }
     ensures { fields.new ≡ with_symbol fields.old symbol }
 {
-    let turn = symbol.turn;
-    let outcome = turn.outcome;
-    let center = turn.center;
-    let corners = symbol.corners;
-    fields[records::OUTCOME] = detector_outcome::outcome_number(outcome);
-    fields[records::SCALE] = turn.scale;
-    fields[records::ROTATION] = detector_outcome::rotation_bits(outcome);
+    let Turn { outcome, center } = symbol.turn;
+    fields[records::OUTCOME] = u32::from(outcome);
+    fields[records::SCALE] = outcome.scale();
+    fields[records::ROTATION] = outcome.rotation_bits();
     fields[records::LAST_CENTER_X] = center.x;
     fields[records::LAST_CENTER_Y] = center.y;
-    store_corner(fields, records::CORNERS, corners[0]);
-    store_corner(fields, records::CORNERS + 2, corners[1]);
-    store_corner(fields, records::CORNERS + 4, corners[2]);
-    store_corner(fields, records::CORNERS + 6, corners[3]);
+    for (i, corner) in symbol.corners.iter().enumerate() {
+        store_corner(fields, records::CORNERS + 2 * i, *corner);
+    }
     fields[records::CLASS] = symbol.class;
 }

@@ -7,16 +7,15 @@ use Rattle.reads.specs.Reads.{Reads, done, ◌>>=◌}
 use Rattle.bit_matrix.specs.declared.Shape.{Shape}
 use Rattle.bit_matrix.specs.ShapeClauses.{Image, Inside}
 use Rattle.sines.specs.declared.Angle.{Angle}
-use Rattle.sines.specs.Sines.{sines, angle_of}
+use Rattle.sines.specs.Sines.{angle_of}
 use Rattle.rxing_result_point.specs.declared.PointU.{PointU}
 use Rattle.rxing_result_point.specs.Points.{real, past}
 use Rattle.detector_walks.specs.Walks.{walk_point, white_point}
 
--- what a step about a centre is lent: an image, a centre inside it, and the table of sines
-pub record Lent (shape : Shape) (words marks : List ℕ) (center : PointU) (table : List Float) : Type 0 where
+-- what a step about a centre is lent: an image, and a centre inside it
+pub record Lent (shape : Shape) (words marks : List ℕ) (center : PointU) : Type 0 where
   pub image : Image shape words marks
   pub inside : Inside shape center.x center.y
-  pub table_is : table ≡ sines
 
 -- the angle of some degree
 pub record OfDegree (angle : Angle) : Type 0 where

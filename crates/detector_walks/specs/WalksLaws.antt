@@ -208,6 +208,6 @@ unfolding walk
 left_ends shape center angle = left_within shape center angle center.x
 
 -- ---- what a step is lent, with the marks that it leaves
-pub lent_on : {shape : Shape} {words marks after : List ℕ} {center : PointU} {table : List Float} → Lent shape words marks center table
-    → length after ≡ length marks → Lent shape words after center table
-lent_on lent kept = record { image = image_kept lent.image kept; inside = lent.inside; table_is = lent.table_is }
+pub lent_on : {shape : Shape} {words marks after : List ℕ} {center : PointU} → Lent shape words marks center
+    → length after ≡ length marks → Lent shape words after center
+lent_on lent kept = record { image = image_kept lent.image kept; inside = lent.inside }

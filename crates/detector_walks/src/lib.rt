@@ -13,7 +13,7 @@ ghost use Rattle.detector_walks.specs.StepsLaws.{steps_right};
 
 use bit_matrix::Shape;
 use rxing_result_point::{Point, PointU};
-use sines::Angle;
+use sines::{Angle, Sines};
 
 // What the two walks at a degree come to: how many steps they took together, and the points where they end.
 #[derive(Clone, Copy)]
@@ -295,13 +295,13 @@ pub fn find_width_at_degree(
     marks: &mut [u64],
     shape: Shape,
     center: PointU,
-    table: &[f32; 360],
+    sines: &Sines,
     degree: u32,
 ) -> Width
-    requires { Lent shape words.now marks.old center table.now }
+    requires { Lent shape words.now marks.old center }
     ensures { Ran (find_width_at_degree shape center degree) words.now marks.old result marks.new }
 {
-    let angle = sines::angle_of(table, degree);
+    let angle = sines.angle(degree);
     let left = walk_left(words, marks, shape, center, angle);
     let right = walk_right(words, marks, shape, center, angle);
     width_of(center, angle, left, right)

@@ -3,10 +3,9 @@
 #![tactic(auto)]
 
 ghost use Rattle.std.specs.Prelude.{◌≡◌};
-ghost use Rattle.sines.specs.Sines.{sines};
 ghost use Rattle.rxing_result_point.specs.Points.{turned, get_point, rounded};
 
-use sines::Angle;
+use sines::{Angle, Sines};
 
 // A pair of f32 coordinates: a corner, a walk's end, a circle's centre.
 #[derive(Clone, Copy)]
@@ -15,7 +14,7 @@ pub struct Point {
     pub y: f32,
 }
 
-// A pixel's column and row.
+// A pixel's column and row. Two structs, as in the source: a generic one of both would have no method of its own.
 #[derive(Clone, Copy)]
 pub struct PointU {
     pub x: u32,
@@ -39,14 +38,13 @@ pub fn turn(center: PointU, original: PointU, angle: Angle) -> Point
 }
 
 // `original` turned about `center` by whole degrees.
-pub fn get_point(center: PointU, original: PointU, table: &[f32; 360], degree: u32) -> Point
-    requires { table.now ≡ sines }
+pub fn get_point(center: PointU, original: PointU, sines: &Sines, degree: u32) -> Point
     ensures { result ≡ get_point center original degree }
 {
-    turn(center, original, sines::angle_of(table, degree))
+    turn(center, original, sines.angle(degree))
 }
 
-// The pixel of a point: Rust's `round`, and then the conversion to PointU.
+// The pixel of a point: Rust's `round`, and then the conversion to PointU. No `From`, which would not say that it rounds.
 pub fn round_to_point_u(p: Point) -> PointU
     ensures { result ≡ rounded p }
 {

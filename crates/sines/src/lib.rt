@@ -376,36 +376,40 @@ const SINES: [f32; 360] = [
     -0.017452406,
 ];
 
-// The table, to be made once and lent.
-pub fn table() -> [f32; 360]
-    ensures { result ≡ sines }
-{
-    SINES
+// The table of sines, to be made once and lent.
+pub struct Sines {
+    values: [f32; 360],
+    pub ghost are_sines: { values ≡ sines },
 }
 
-// The sine of a degree, which counts modulo 360.
-pub fn sine(table: &[f32; 360], degree: u32) -> f32
-    requires { table.now ≡ sines }
-    ensures { result ≡ sine_of degree }
-{
-    let d = (degree % 360) as usize;
-    table[d]
-}
+impl Sines {
+    pub fn new() -> Self
+        ensures { result.values ≡ sines }
+    {
+        Sines { values: SINES }
+    }
 
-// The cosine: the sine 90 degrees on.
-pub fn cosine(table: &[f32; 360], degree: u32) -> f32
-    requires { table.now ≡ sines }
-    ensures { result ≡ cosine_of degree }
-{
-    sine(table, degree % 360 + 90)
-}
+    // The sine of a degree, which counts modulo 360.
+    pub fn sine(&self, degree: u32) -> f32
+        ensures { result ≡ sine_of degree }
+    {
+        self.values[(degree % 360) as usize]
+    }
 
-// The angle of a degree.
-pub fn angle_of(table: &[f32; 360], degree: u32) -> Angle
-    requires { table.now ≡ sines }
-    ensures { result ≡ angle_of degree }
-{
-    let sin = sine(table, degree);
-    let cos = cosine(table, degree);
-    Angle { sin, cos }
+    // The cosine: the sine 90 degrees on.
+    pub fn cosine(&self, degree: u32) -> f32
+        ensures { result ≡ cosine_of degree }
+    {
+        self.sine(degree % 360 + 90)
+    }
+
+    // The angle of a degree.
+    pub fn angle(&self, degree: u32) -> Angle
+        ensures { result ≡ angle_of degree }
+    {
+        Angle {
+            sin: self.sine(degree),
+            cos: self.cosine(degree),
+        }
+    }
 }

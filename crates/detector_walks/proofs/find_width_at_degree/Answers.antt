@@ -27,7 +27,7 @@ module _ (shape : Shape) (center : PointU) (angle : Angle) {words m₀ m₁ : Li
   left_side : {left : ℕ} → Ran (walk shape center angle true) words m₀ left m₁ → left ≤ center.x
   left_side ran = always_ran (left_ends shape center angle) ran
 
-  module _ {marks : List ℕ} {table : List Float} (lent : Lent shape words marks center table) (degree : ℕ) (e : angle ≡ angle_of degree) {right : ℕ}
+  module _ {marks : List ℕ} (lent : Lent shape words marks center) (degree : ℕ) (e : angle ≡ angle_of degree) {right : ℕ}
       (ran : Ran (walk shape center angle false) words m₀ right m₁) where
     ends : EndsAt shape center (angle_of degree) words (center.x + 1) (steps_right shape (angle_of degree)) right
     ends =

@@ -1,8 +1,0 @@
--- `detector_circle::calculate_high_accuracy_center` meets its contract: what the call ensures, with the radius kept.
-use Rattle.reads.proofs.RunsLaws.{ran_bind, ran_done}
-use Rattle.detector_circle.specs.Circle.{corrected_circle}
-use Rattle.detector_circle.proofs.calculate_high_accuracy_center.Goals as goal
-
-pub returns : goal.returns
-unfolding corrected_circle
-returns c = ran_bind _ c.corrected_center-circle.ensures (ran_done _)
