@@ -28,7 +28,7 @@ unfoldable pub closing : List ℕ → ℕ → ℕ → Bool
 closing ring k end = cond (ltb k 10) false (colour k && valid_widths (buckets_of ring k end))
 
 -- the runs of the window that it closes, if it closes one
-abbrev pub closed_by : List ℕ → ℕ → ℕ → Option (List ℕ)
+unfoldable pub closed_by : List ℕ → ℕ → ℕ → Option (List ℕ)
 closed_by ring k end = cond (closing ring k end) (Some (buckets_of ring k end)) None
 
 -- the next run starts at column e

@@ -7,20 +7,20 @@ use Rattle.detector_window.proofs.Ring.closed_by.Goals.{then-self-lt10-via-then-
 
 module _ (starts : List ℕ) (k end : ℕ) where
   few : k < 10 → None ≡ closed_by starts k end
-  unfolding closing
+  unfolding closing closed_by
   few h = rw (lt-ltb _ _ h)
 
   white : 10 ≤ k → false ≡ colour k → None ≡ closed_by starts k end
-  unfolding closing
+  unfolding closing closed_by
   white h turn = rw (le-ltb _ _ h, ← turn)
 
   module _ {runs : List ℕ} (many : 10 ≤ k) (black : true ≡ colour k) (counted : runs ≡ buckets_of starts k end) where
     shut : true ≡ valid_widths runs → Some runs ≡ closed_by starts k end
-    unfolding closing
+    unfolding closing closed_by
     shut pass = rw (le-ltb _ _ many, ← black, ← counted, ← pass)
 
     open_still : false ≡ valid_widths runs → None ≡ closed_by starts k end
-    unfolding closing
+    unfolding closing closed_by
     open_still fail = rw (le-ltb _ _ many, ← black, ← counted, ← fail)
 
 pub returns-then-self-lt10 : goal.returns-then-self-lt10
