@@ -1,8 +1,6 @@
 -- The trailing zeros of a word find its first set bit, and so the end of a run. Assumes nothing.
-use Prim.Native.Nat.{ℕ, zero, suc, ◌+◌, ◌-◌, ◌/◌, ◌%◌, ◌^◌, ◌≤◌, ◌<◌}
+use Rattle.std.proofs.Common.{ℕ, zero, suc, ◌+◌, ◌-◌, ◌/◌, ◌%◌, ◌^◌, ◌≤◌, ◌<◌, div-one, arith, sym, ◌∙◌, shr-shr, Bool, true, false, ◌≡◌, refl, eqb}
 use Rattle.std.proofs.Math.Nat.{add-zero}
-use Rattle.std.proofs.Common.{div-one, arith, sym, ◌∙◌, shr-shr}
-use Rattle.std.specs.Prelude.{Bool, true, false, ◌≡◌, refl, eqb}
 use Rattle.std.proofs.Math.Bool.{not, xor}
 use Rattle.std.proofs.Math.Path.{ap}
 use Rattle.std.specs.Int.Count.{count_trailing_zeros, under}

@@ -2,23 +2,17 @@
 // index of 64 × words need not fit a usize.
 #![tactic(auto)]
 
-ghost use Rattle.std.specs.Prelude.{◌≡◌, ◌+◌, ◌-◌, ◌*◌, ◌/◌, ◌%◌, ◌^◌, ◌≤◌, ◌<◌, min, get_or};
+ghost use Rattle.std.specs.Prelude.{◌≡◌, ◌+◌, ◌-◌, ◌*◌, ◌/◌, ◌%◌, ◌^◌, ◌≤◌, ◌<◌, get_or};
 ghost use Rattle.reads.specs.MasksLaws.{mask};
 ghost use Rattle.reads.specs.Bits.{range, mark_all};
 ghost use Rattle.bit_runs.specs.BitRuns.{row_bit, FirstBlack, Changes};
 
-fn least(a: usize, b: usize) -> usize
-    ensures { result ≡ min a b }
+// Ones from a place of a word up to, not including, another.
+fn mask_of(place: usize, end: usize) -> u64
+    requires { (place < 64) × (place ≤ end) × (0 < end) × (end ≤ 64) }
+    ensures { result ≡ mask (end - place) place }
 {
-    if a < b { a } else { b }
-}
-
-// n ones from a place on.
-fn mask_of(n: usize, place: usize) -> u64
-    requires { (0 < n) × (n + place ≤ 64) }
-    ensures { result ≡ mask n place }
-{
-    0xffff_ffff_ffff_ffff >> (64 - n) << place
+    u64::MAX >> (64 - end) >> place << place
 }
 
 // The columns from `from` up to, not including, `to` are marked. Past the last word there is nothing to mark.
@@ -26,17 +20,12 @@ pub fn mark_range(marks: &mut [u64], first: usize, from: usize, to: usize)
     requires { (from ≤ to) × (first + to / 64 < 2 ^ 64) }
     ensures { marks.new ≡ mark_all marks.old (range (first * 64 + from) (to - from)) }
 {
-    let mut i = from;
-    while i < to {
-        let at = first + i / 64;
-        let place = i % 64;
-        let n = least(64 - place, to - i);
-        let ones = mask_of(n, place);
-        let next = i + n;
-        if at < marks.len() {
-            marks[at] |= ones;
+    for word in from / 64..to.div_ceil(64) {
+        let column = word * 64;
+        let ones = mask_of(from.saturating_sub(column), (to - column).min(64));
+        if first + word < marks.len() {
+            marks[first + word] |= ones;
         }
-        i = next;
     }
 }
 
@@ -44,7 +33,7 @@ pub fn mark_range(marks: &mut [u64], first: usize, from: usize, to: usize)
 fn word_at(words: &[u64], at: usize) -> u64
     ensures { result ≡ get_or words.now at 0 }
 {
-    if at < words.len() { words[at] } else { 0 }
+    words.get(at).copied().unwrap_or(0)
 }
 
 // The first black column from `from` on, and before `to`, or `to`. Past the last word all is white.
@@ -52,15 +41,12 @@ pub fn first_black(words: &[u64], first: usize, from: usize, to: usize) -> usize
     requires { (from ≤ to) × (to < 2 ^ 63) × (first + to / 64 < 2 ^ 64) }
     ensures { FirstBlack (row_bit words.now first) from to result }
 {
-    let mut i = from;
-    while i < to {
-        let place = i % 64;
-        let word = word_at(words, first + i / 64);
-        let n = u64::trailing_zeros(word >> place) as usize;
-        if n < 64 - place {
-            return least(i + n, to);
+    for word in from / 64..to.div_ceil(64) {
+        let column = from.max(word * 64);
+        let white = (word_at(words, first + word) >> (column % 64)).trailing_zeros() as usize;
+        if white < 64 - column % 64 {
+            return (column + white).min(to);
         }
-        i += 64 - place;
     }
     to
 }

@@ -1,14 +1,7 @@
 -- The laws by which the sweep goes from change to change. Assumes nothing.
-use Prim.Native.Nat.{ℕ, zero, suc, ◌+◌, ◌-◌, ◌*◌, ◌%◌, ◌≤◌, ◌<◌, min}
-use native.Mathlib.Decide.{dec_lt}
-use native.Mathlib.Nat.{add-zero}
-use native.Mathlib.Omega.{arith}
-use mathlib.Core.Bool.{Bool, true, false, not, cond, ◌&&◌, beq, false≢true}
-use mathlib.Core.Path.{◌≡◌, refl, sym, ap, ◌∙◌}
-use mathlib.Core.List.{List}
-use borrow.Author.Tests.{lt-ltb, le-ltb}
-use lib.Dec.{ltb}
-use lib.ListN.{length, get_or}
+use Rattle.std.proofs.Common.{ℕ, zero, suc, ◌+◌, ◌-◌, ◌*◌, ◌%◌, ◌≤◌, ◌<◌, min, add-zero, arith, Bool, true, false, not, cond, ◌&&◌, ◌≡◌, refl, sym, ap, ◌∙◌, List, lt-ltb, le-ltb, ltb, length, get_or, Option, Some, None}
+use Rattle.std.proofs.Math.Decide.{dec_lt}
+use Rattle.std.proofs.Math.Bool.{beq, false≢true}
 use Rattle.reads.specs.Reads.{Reads, done}
 use Rattle.reads.specs.Bits.{mark, mark_all, range}
 use Rattle.reads.specs.RunsClauses.{Resumes}
@@ -23,9 +16,9 @@ use Rattle.detector_window.specs.Window.{metadata, without_first}
 use Rattle.detector_first_window.specs.FirstWindow.{window_by}
 use Rattle.detector_first_window.specs.FirstWindowClauses.{window_from}
 use Rattle.detector_first_window.specs.FirstWindowLaws.{CountedRuns, counted_same, counted_next, counted_without}
-use Rattle.detector_window.specs.Ring.{buckets_of, colour, closing}
+use Rattle.detector_window.specs.Ring.{buckets_of, colour, closing, closed_by, started}
 use Rattle.detector_window.specs.declared.Bullseye.{Bullseye}
-use Rattle.detector_window.specs.RingLaws.{bump_run, colour_next, started, early, late}
+use Rattle.detector_window.specs.RingLaws.{bump_run, colour_next, early, late}
 
 beq_same : (b : Bool) → beq b b ≡ true
 beq_same true = refl
@@ -54,21 +47,39 @@ closing_many ring k e h =
     last_black (valid_widths (buckets_of ring k e)) (colour k)
     ∙ ap (λ (t : Bool). cond t false (colour k && valid_widths (buckets_of ring k e))) (sym (le-ltb k 10 h))
 
-pub closing_full : (ring : List ℕ) (k e : ℕ) → closing ring k e ≡ true → 10 ≤ k
+closing_full : (ring : List ℕ) (k e : ℕ) → closing ring k e ≡ true → 10 ≤ k
 closing_full ring k e shut = go (dec_lt k 10)
   where
     go : Dec (k < 10) → 10 ≤ k
     go (yes few) = absurd (false≢true (sym (closing_few ring k e few) ∙ shut))
     go (no many) = omega arith
 
+-- the runs of the window that closes, by the test
+module _ (ring : List ℕ) (k e : ℕ) where
+  pub closed_some : {runs : List ℕ} → Some runs ≡ closed_by ring k e → (closing ring k e ≡ true) × (runs ≡ buckets_of ring k e)
+  unfolding closed_by
+  closed_some {runs} is = go (closing ring k e) refl is
+    where
+      go : (t : Bool) → closing ring k e ≡ t → Some runs ≡ cond t (Some (buckets_of ring k e)) None → (closing ring k e ≡ true) × (runs ≡ buckets_of ring k e)
+      go true shut same = (shut, cc)
+      go false shut same = cc
+
+  pub closed_none : None ≡ closed_by ring k e → closing ring k e ≡ false
+  unfolding closed_by
+  closed_none is = go (closing ring k e) refl is
+    where
+      go : (t : Bool) → closing ring k e ≡ t → None ≡ cond t (Some (buckets_of ring k e)) None → closing ring k e ≡ false
+      go true shut same = cc
+      go false shut same = shut
+
 -- ---- a sweep at a column, in run k
 
 module _ (shape : Shape) (row limit : ℕ) where
-  abbrev pub sweep_at : List ℕ → ℕ → ℕ → Reads Bullseye
+  abbrev pub sweep_at : List ℕ → ℕ → ℕ → Reads (Option Bullseye)
   sweep_at ring k column = window_from shape row (limit - column) column (colour k) (min k 10) (buckets_of ring k column)
 
 module _ {words : List ℕ} (shape : Shape) (row limit : ℕ) (stored : length words ≡ size shape) where
-  module _ {before : List ℕ} {whole : Reads Bullseye} (ring : List ℕ) (k : ℕ) where
+  module _ {before : List ℕ} {whole : Reads (Option Bullseye)} (ring : List ℕ) (k : ℕ) where
     module _ (x e : ℕ) (start : get_or ring (k % 16) 0 ≤ x) (after : x ≤ e) (within : e ≤ limit)
         (same : (j : ℕ) → x ≤ j → j < e → row_bit words (row * shape.row_words) j ≡ colour k) where
       onward : (i : ℕ) (m : List ℕ) → i < e - x → length m ≡ length words
@@ -96,16 +107,16 @@ module _ {words : List ℕ} (shape : Shape) (row limit : ℕ) (stored : length w
         (long : length m ≡ length words)
         (rest : Resumes words (sweep_at shape row limit ring k e) m whole before) where
       -- what is left after the pixel at e, of the other colour
-      abbrev Left : Reads Bullseye → Type 0
+      abbrev Left : Reads (Option Bullseye) → Type 0
       Left p = Resumes words p (mark m (row * shape.row_words * 64 + e)) whole before
 
-      abbrev next : Bool → ℕ → List ℕ → Reads Bullseye
+      abbrev next : Bool → ℕ → List ℕ → Reads (Option Bullseye)
       next last pointer buckets = window_from shape row (limit - (e + 1)) (e + 1) last pointer buckets
 
       read_on : Left (cond (ltb (min k 10) 10)
           (next (not (colour k)) (min k 10 + 1) (bump (buckets_of ring k e) (min k 10 + 1)))
           (cond (valid_widths (buckets_of ring k e) && not (not (colour k)))
-          (done (metadata (buckets_of ring k e) e))
+          (done (Some (metadata (buckets_of ring k e) e)))
           (next (not (colour k)) (min k 10) (without_first (buckets_of ring k e)))))
       unfolding window_by
       read_on =
@@ -115,7 +126,7 @@ module _ {words : List ℕ} (shape : Shape) (row limit : ℕ) (stored : length w
           rw turned at (resumes_else _ _ apart (resumes_step _ (ran_pixel words m shape e row stored long) (rw some at rest)))
 
       -- the window closes
-      pub resumes_closed : closing ring k e ≡ true → Left (done (metadata (buckets_of ring k e) e))
+      pub resumes_closed : closing ring k e ≡ true → Left (done (Some (metadata (buckets_of ring k e) e)))
       resumes_closed shut =
           let full : 10 ≤ k = closing_full ring k e shut in
           resumes_then _ _ (closing_many ring k e full ∙ shut) (resumes_else _ _ (le-ltb (min k 10) 10 (omega arith)) read_on)

@@ -1,13 +1,7 @@
 -- The invariant of `sweep`, and how it goes from change to change and from word to word. The runs so far are those of the ring, the changes up to `stop` are
 -- known, and with the columns so far marked, what is left of the definition ends as the whole does from the marks before, whatever these are. Assumes nothing.
-use Prim.Native.Nat.{ℕ, ◌+◌, ◌-◌, ◌*◌, ◌/◌, ◌%◌, ◌^◌, ◌≤◌, ◌<◌, min}
-use mathlib.Core.Path.{◌≡◌, refl, sym, ap, ◌∙◌}
-use mathlib.Core.Bool.{Bool, true, false, not}
-use mathlib.Core.List.{List}
-use native.Mathlib.Omega.{arith}
+use Rattle.std.proofs.Common.{ℕ, ◌+◌, ◌-◌, ◌*◌, ◌/◌, ◌%◌, ◌^◌, ◌≤◌, ◌<◌, min, ◌≡◌, refl, sym, ap, ◌∙◌, Bool, true, not, List, arith, length, get_or, length-set, replicate, get_or-set_same, Option, Some, None}
 use lib.Count.{count_trailing_zeros}
-use lib.ListN.{length, get_or, set, length-set, replicate}
-use lib.Seq.{get_or-set_same}
 use Rattle.reads.specs.Reads.{Reads}
 use Rattle.reads.specs.Bits.{mark, mark_all, range}
 use Rattle.reads.proofs.BitsLaws.{length_mark_all, range_join, range_last}
@@ -19,21 +13,21 @@ use Rattle.bit_matrix.specs.ShapeClauses.{Limits}
 use Rattle.bit_runs.specs.BitRuns.{row_bit, Changes}
 use Rattle.bit_runs.specs.ChangesLaws.{changes_fewer, same_until, changes_at, changes_after}
 use Rattle.reads.specs.Total.{total}
-use Rattle.detector_window.specs.Window.{radius_of, metadata, none}
+use Rattle.detector_window.specs.Window.{radius_of, metadata}
 use Rattle.detector_first_window.specs.FirstWindow.{window_by}
 use Rattle.detector_first_window.specs.FirstWindowClauses.{window_from, Swept}
 use Rattle.detector_first_window.specs.FirstWindowLaws.{CountedRuns, counted_none}
-use Rattle.detector_window.specs.Ring.{buckets_of, colour, closing}
+use Rattle.detector_window.specs.Ring.{buckets_of, colour, started, closed_by}
 use Rattle.detector_window.specs.declared.Bullseye.{Bullseye}
 use Rattle.detector_window.specs.RingLaws.{none_counted, colour_next}
-use Rattle.detector_first_window.proofs.SweepLaws.{sweep_at, resumes_run, resumes_closed, resumes_next, closing_full, counted_to, counted_change}
+use Rattle.detector_first_window.proofs.SweepLaws.{closed_some, closed_none, sweep_at, resumes_run, resumes_closed, resumes_next, counted_to, counted_change}
 
 -- n columns from `from` on marked
 abbrev Marked : List ℕ → Shape → ℕ → ℕ → ℕ → List ℕ
 Marked marks shape row from n = mark_all marks (range (row * shape.row_words * 64 + from) n)
 
 -- from the marks m, with the columns up to `column` marked, `rest` ends as the whole sweep does
-abbrev Rest : List ℕ → Shape → ℕ → ℕ → ℕ → ℕ → Reads Bullseye → Type 0
+abbrev Rest : List ℕ → Shape → ℕ → ℕ → ℕ → ℕ → Reads (Option Bullseye) → Type 0
 Rest words shape row from limit column rest = (m : List ℕ) → length m ≡ length words
     → Resumes words rest (Marked m shape row from (column - from)) (window_from shape row (limit - from) from true 0 (replicate 11 0)) m
 
@@ -52,15 +46,16 @@ pub record Sweeping (words : List ℕ) (shape : Shape) (row from limit : ℕ) (r
   pub known : Changes (row_bit words (row * shape.row_words)) (colour k) column (stop - column) changes
   pub rest : Rest words shape row from limit column (sweep_at shape row limit ring k column)
 
-pub begins : {words : List ℕ} {shape : Shape} {row from limit stop first changes : ℕ}
+pub begins : {words : List ℕ} {shape : Shape} {row from limit stop first changes k : ℕ} {ring : List ℕ} → ring ≡ replicate 16 from → k ≡ 0
     → Limits shape → length words ≡ size shape → limit ≤ shape.width → from < limit
     → stop ≡ min (from - from % 64 + 64) limit → first ≡ row * shape.row_words → Changes (row_bit words first) true from (64 - from % 64) changes
-    → Sweeping words shape row from limit (set (replicate 16 0) 0 from) 0 from stop changes
+    → Sweeping words shape row from limit ring k from stop changes
 unfolding range mark_all
-begins {from = from} {limit} {stop} limits stored narrow inside end is known =
+begins {from = from} {limit} {stop} made start limits stored narrow inside end is known =
     let nothing : from - from ≡ 0 = omega arith in
-    let runs : buckets_of (set (replicate 16 0) 0 from) 0 from ≡ replicate 11 0 = none_counted (set (replicate 16 0) 0 from) from refl in
-    record {
+    let runs : buckets_of (replicate 16 from) 0 from ≡ replicate 11 0 = none_counted (replicate 16 from) from refl in
+    rw (made, start)
+    (record {
       limits = limits;
       narrow = narrow;
       stored = stored;
@@ -74,15 +69,14 @@ begins {from = from} {limit} {stop} limits stored narrow inside end is known =
       counted = rw runs (counted_none (omega arith));
       known = changes_fewer (rw is at known) (omega arith);
       rest = λ m sized. rw (nothing, runs) resumes_start;
-    }
+    })
 
 -- nothing to look at
-pub nothing_left : {words : List ℕ} {shape : Shape} {row from limit : ℕ} {eye : Bullseye} → limit ≤ from → eye ≡ none
-    → Swept words shape row from limit eye
+pub nothing_left : {words : List ℕ} {shape : Shape} {row from limit : ℕ} → limit ≤ from → Swept words shape row from limit None
 unfolding window_by range mark_all
-nothing_left {from = from} {limit} past is =
+nothing_left {from = from} {limit} past =
     let no : limit - from ≡ 0 = omega arith in
-    rw is (record { within = omega arith; ran = λ m sized. rw no (ran_done _) })
+    record { within = omega arith; ran = λ m sized. rw no (ran_done _) }
 
 module _ {words : List ℕ} {shape : Shape} {row from limit : ℕ} {ring : List ℕ} {k column stop changes : ℕ}
     (sweep : Sweeping words shape row from limit ring k column stop changes) {n : ℕ} (zeros : n ≡ count_trailing_zeros 64 changes) where
@@ -106,22 +100,21 @@ module _ {words : List ℕ} {shape : Shape} {row from limit : ℕ} {ring : List 
       (length_mark_all m (range (row * shape.row_words * 64 + from) (column - from)) ∙ sized) (sweep.rest m sized))
 
   -- no change up to the limit
-  pub at_limit : {eye : Bullseye} → stop ≤ column + n → limit ≤ stop → eye ≡ none → Swept words shape row from limit eye
+  pub at_limit : stop ≤ column + n → limit ≤ stop → Swept words shape row from limit None
   unfolding window_by
-  at_limit clear past is =
+  at_limit clear past =
       let all : stop ≡ limit = omega (arith, sweep.within) in
       let no : limit - limit ≡ 0 = omega arith in
-      rw is
-      (record {
+      record {
         within = omega arith;
         ran = λ m sized. (resumes_end (ran_done _) (rw (all, no) at (ran_on stop sweep.upto (omega arith) clear m sized)));
-      })
+      }
 
   -- the next word
-  pub refilled : {first more next : ℕ} → stop ≤ column + n → stop < limit → first ≡ row * shape.row_words
-      → Changes (row_bit words first) (colour k) stop (64 - stop % 64) more → next ≡ min (stop - stop % 64 + 64) limit
+  pub refilled : {first more next : ℕ} {black : Bool} → stop ≤ column + n → stop < limit → first ≡ row * shape.row_words
+      → Changes (row_bit words first) black stop (64 - stop % 64) more → black ≡ colour k → next ≡ min (stop - stop % 64 + 64) limit
       → Sweeping words shape row from limit ring k stop next more
-  refilled clear short there known is = record {
+  refilled clear short there known turn is = record {
     limits = sweep.limits;
     narrow = sweep.narrow;
     stored = sweep.stored;
@@ -133,7 +126,7 @@ module _ {words : List ℕ} {shape : Shape} {row from limit : ℕ} {ring : List 
     sixteen = sweep.sixteen;
     starts = omega (arith, sweep.starts, sweep.upto);
     counted = counted_to ring k column stop sweep.upto sweep.starts sweep.counted;
-    known = changes_fewer (rw there at known) (omega arith);
+    known = changes_fewer (rw (there, turn) at known) (omega arith);
     rest = ran_on stop sweep.upto (omega arith) clear;
   }
 
@@ -156,11 +149,10 @@ module _ {words : List ℕ} {shape : Shape} {row from limit : ℕ} {ring : List 
     sums : total (buckets_of ring k end) ≤ end
     sums = omega (arith, runs.sum)
 
-    pub window_fits : {buckets : List ℕ} → buckets ≡ buckets_of ring k end → (length buckets ≡ 11) × (total buckets ≤ end) × (end + 1 < 2 ^ 32)
-    window_fits counts = (ap length counts, rw counts sums, omega (arith, sweep.within, sweep.narrow, sweep.limits.width_most))
-
-    pub many_runs : {shut : Bool} → shut ≡ closing ring k end → shut ≡ true → 10 ≤ k
-    many_runs test met = closing_full ring k end (sym test ∙ met)
+    pub window_fits : {buckets : List ℕ} → Some buckets ≡ closed_by ring k end → (length buckets ≡ 11) × (total buckets ≤ end) × (end + 1 < 2 ^ 32)
+    window_fits shut =
+        let counts = (closed_some ring k end shut).1 in
+        (ap length counts, rw counts sums, omega (arith, sweep.within, sweep.narrow, sweep.limits.width_most))
 
     -- the pixel after the run is read: what is left goes on at the next column
     marked : (m : List ℕ) → Marked m shape row from (end + 1 - from) ≡ mark (Marked m shape row from (end - from)) (row * shape.row_words * 64 + end)
@@ -170,13 +162,12 @@ module _ {words : List ℕ} {shape : Shape} {row from limit : ℕ} {ring : List 
         ap (Marked m shape row from) more ∙ range_last m (row * shape.row_words * 64 + from) (end - from)
         ∙ ap (mark (Marked m shape row from (end - from))) here
 
-    pub closes : {shut : Bool} {buckets : List ℕ} {eye : Bullseye} → shut ≡ closing ring k end → shut ≡ true
-        → buckets ≡ buckets_of ring k end → eye ≡ metadata buckets end
-        → Swept words shape row from limit eye
+    pub closes : {buckets : List ℕ} {eye : Bullseye} → Some buckets ≡ closed_by ring k end → eye ≡ metadata buckets end
+        → Swept words shape row from limit (Some eye)
     unfolding metadata
-    closes test met counts window =
+    closes shut window =
         let to : end - radius_of (buckets_of ring k end) + radius_of (buckets_of ring k end) + 1 ≡ end + 1 = omega (arith, sums) in
-        rw (window, counts)
+        rw (window, (closed_some ring k end shut).1)
         (record {
           within = omega (arith, sweep.within);
           ran = λ m sized. rw (to, marked m)
@@ -184,15 +175,16 @@ module _ {words : List ℕ} {shape : Shape} {row from limit : ℕ} {ring : List 
               (resumes_closed shape row limit sweep.stored ring k end (omega (arith, sweep.within)) turned
               (length_mark_all m (range (row * shape.row_words * 64 + from) (end - from)) ∙ sized)
               (ran_on end (omega arith) (omega arith) (omega arith) m sized)
-              (sym test ∙ met)));
+              (closed_some ring k end shut).0));
         })
 
-    pub onward : {shut : Bool} → shut ≡ closing ring k end → shut ≡ false
-        → Sweeping words shape row from limit (set ring ((k + 1) % 16) end) (k + 1) (end + 1) stop (changes / 2 ^ n / 2 ^ 1)
-    onward test not_yet =
+    pub onward : {next_ring : List ℕ} {next_k : ℕ} → None ≡ closed_by ring k end → next_ring ≡ started ring k end → next_k ≡ k + 1
+        → Sweeping words shape row from limit next_ring next_k (end + 1) stop (changes / 2 ^ n / 2 ^ 1)
+    onward not_yet pushed counts =
         let left : stop - column - (n + 1) ≡ stop - (end + 1) = omega arith in
         let next : column + n + 1 ≡ end + 1 = omega arith in
-        record {
+        rw (pushed, counts)
+        (record {
           limits = sweep.limits;
           narrow = sweep.narrow;
           stored = sweep.stored;
@@ -209,5 +201,5 @@ module _ {words : List ℕ} {shape : Shape} {row from limit : ℕ} {ring : List 
               (resumes_next shape row limit sweep.stored ring k end (omega (arith, sweep.within)) turned
               (length_mark_all m (range (row * shape.row_words * 64 + from) (end - from)) ∙ sized)
               (ran_on end (omega arith) (omega arith) (omega arith) m sized)
-              sweep.sixteen (sym test ∙ not_yet));
-        }
+              sweep.sixteen (closed_none ring k end not_yet));
+        })

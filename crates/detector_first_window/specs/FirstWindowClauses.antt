@@ -1,5 +1,5 @@
 -- What the clauses of functions name: the window with the test in whole numbers, and what the sweep that marks nothing is to find. Assumes nothing.
-use Rattle.std.specs.Prelude.{ℕ, ◌+◌, ◌-◌, ◌*◌, ◌≤◌, Bool, true, cond, ◌≡◌, List, length, replicate}
+use Rattle.std.specs.Prelude.{ℕ, ◌+◌, ◌-◌, ◌*◌, ◌≤◌, Bool, true, ◌≡◌, List, length, replicate, Option, Some, None}
 use Rattle.reads.specs.Bits.{range, mark_all}
 use Rattle.reads.specs.Reads.{Reads}
 use Rattle.reads.specs.RunsClauses.{Ran}
@@ -8,16 +8,17 @@ use Rattle.detector_widths.specs.Widths.{valid_widths}
 use Rattle.detector_window.specs.declared.Bullseye.{Bullseye}
 use Rattle.detector_first_window.specs.FirstWindow.{window_by}
 
-abbrev pub window_from : Shape → ℕ → ℕ → ℕ → Bool → ℕ → List ℕ → Reads Bullseye
+abbrev pub window_from : Shape → ℕ → ℕ → ℕ → Bool → ℕ → List ℕ → Reads (Option Bullseye)
 window_from = window_by valid_widths
 
 -- the column after the last that a sweep reads: it reads the one that closes the window
-abbrev pub read_to : ℕ → Bullseye → ℕ
-read_to limit eye = cond eye.found (eye.center + eye.radius + 1) limit
+abbrev pub read_to : ℕ → Option Bullseye → ℕ
+read_to limit None = limit
+read_to limit (Some eye) = eye.center + eye.radius + 1
 
 -- what the sweep from `from` on finds; the columns from there to before `read_to` are what it reads
-pub record Swept (words : List ℕ) (shape : Shape) (row from limit : ℕ) (eye : Bullseye) : Type 0 where
-  pub within : read_to limit eye ≤ limit
+pub record Swept (words : List ℕ) (shape : Shape) (row from limit : ℕ) (found : Option Bullseye) : Type 0 where
+  pub within : read_to limit found ≤ limit
   pub ran : (marks : List ℕ) → length marks ≡ length words
-      → Ran (window_from shape row (limit - from) from true 0 (replicate 11 0)) words marks eye
-      (mark_all marks (range (row * shape.row_words * 64 + from) (read_to limit eye - from)))
+      → Ran (window_from shape row (limit - from) from true 0 (replicate 11 0)) words marks found
+      (mark_all marks (range (row * shape.row_words * 64 + from) (read_to limit found - from)))

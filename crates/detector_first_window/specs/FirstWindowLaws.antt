@@ -1,13 +1,11 @@
 -- What holds of the first window of a row from a column on, on the image at hand: where its runs lie, and that they begin and end with a black pixel; and that
 -- with the source's test of the widths it is the same. Assumes nothing.
-use Prim.Native.Nat.{ℕ, zero, suc, ◌+◌, ◌-◌, ◌*◌, ◌/◌, ◌^◌, ◌≤◌, ◌<◌}
+use Rattle.std.proofs.Common.{ℕ, zero, suc, ◌+◌, ◌-◌, ◌*◌, ◌/◌, ◌^◌, ◌≤◌, ◌<◌, arith, sym, ap, ◌∙◌, length-drop, length-append, get_or-set_other, get_or-drop, Bool, false, ◌&&◌, ◌≢◌, ◌≡◌, refl, List, [], ◌∷◌, ◌++◌, ltb, get_or, drop, replicate, Option, IfSome, ltb-true, ltb-false}
 use Rattle.std.proofs.Math.Decide.{ℕ_discrete}
-use Rattle.std.proofs.Common.{arith, sym, ap, ◌∙◌, length-drop, length-append, get_or-set_other, get_or-drop}
-use Rattle.std.specs.Prelude.{Bool, false, ◌&&◌, ◌≢◌, ◌≡◌, refl, List, [], ◌∷◌, ◌++◌, ltb, get_or, drop, replicate}
 use Rattle.std.proofs.Math.Bool.{true, not}
 use Rattle.std.specs.Bool.{beq}
 use Rattle.std.proofs.lemmas.Bool.{false≢true}
-use borrow.Author.Tests.{ltb-true, ltb-false, not-true, not-false}
+use borrow.Author.Tests.{not-true, not-false}
 use Rattle.std.proofs.Math.ListN.{length, length-set}
 use Rattle.std.proofs.Math.Seq.{get_or-set_same}
 use Rattle.reads.specs.Reads.{value}
@@ -160,8 +158,8 @@ closed {shape} {image} {row} {start} {column} {buckets} counted coloured pass be
     by_place i (no later) low = counted.some i (omega arith) (omega (arith, counted.eleven))
 
 -- what a search says of its result, on this image
-abbrev pub FoundWindow : Shape → (ℕ → Bool) → ℕ → ℕ → Bullseye → Type 0
-FoundWindow shape image row start eye = eye.found ≡ true → Closed shape image row start eye
+abbrev pub FoundWindow : Shape → (ℕ → Bool) → ℕ → ℕ → Option Bullseye → Type 0
+FoundWindow shape image row start found = IfSome found (Closed shape image row start)
 
 beq_true : (a b : Bool) → beq a b ≡ true → a ≡ b
 beq_true true true e = refl
@@ -184,7 +182,7 @@ module _ (shape : Shape) (row : ℕ) (image : ℕ → Bool) where
       → n ≤ shape.width - 6 - column → CountedRuns start column pointer buckets → ColouredRuns (row_colours shape image row) column last pointer buckets
       → On image (FoundWindow shape image row start) (window_from shape row n column last pointer buckets)
   unfolding window_by
-  window_on zero column last pointer buckets h counted coloured = on_done image (λ e. absurd (false≢true e))
+  window_on zero column last pointer buckets h counted coloured = on_done image tt
   window_on {start} (suc n) column last pointer buckets h counted coloured =
       on_after image _ _ λ black now. on_cond image (beq black last)
       (λ same. window_on n (column + 1) last pointer (bump buckets pointer) (omega arith) (counted_same counted)
@@ -195,7 +193,7 @@ module _ (shape : Shape) (row : ℕ) (image : ℕ → Bool) where
       (λ early. window_on n (column + 1) black (pointer + 1) (bump buckets (pointer + 1)) (omega arith) (counted_next counted (ltb-true pointer 10 early))
       (coloured_next coloured now turn (omega (arith, counted.eleven, ltb-true pointer 10 early))))
       (λ late. on_cond image (valid_widths buckets && not black)
-      (λ pass. on_done image (λ _. closes black turn (ltb-false pointer 10 late) pass))
+      (λ pass. on_done image (closes black turn (ltb-false pointer 10 late) pass))
       (λ _. window_on n (column + 1) black pointer (without_first buckets) (omega arith) (counted_without counted (ltb-false pointer 10 late))
       (coloured_without coloured now turn (omega (arith, counted.eleven, counted.few, ltb-false pointer 10 late))))))
     where

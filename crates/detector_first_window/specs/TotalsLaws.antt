@@ -1,6 +1,5 @@
 -- What holds of the sum of the runs, and of those from one on: one pixel more in a run, the first run dropped, and that no run is longer. Assumes nothing.
-use Rattle.std.specs.Prelude.{ℕ, zero, suc, ◌+◌, ◌≤◌, ◌<◌, ◌≡◌, refl, List, [], ◌∷◌, ◌++◌, length, get_or, drop}
-use Rattle.std.proofs.Common.{arith, ap, ◌∙◌, drop_of_length-le, drop-set-lt}
+use Rattle.std.proofs.Common.{ℕ, zero, suc, ◌+◌, ◌≤◌, ◌<◌, ◌≡◌, refl, List, [], ◌∷◌, ◌++◌, length, get_or, drop, arith, ap, ◌∙◌, drop_of_length-le, drop-set-lt}
 use Rattle.std.proofs.lemmas.List.{drop-append-le}
 use Rattle.reads.specs.Total.{total}
 use Rattle.detector_widths.specs.Buckets.{bump}

@@ -7,7 +7,7 @@ ghost use Rattle.bit_matrix.specs.ShapeClauses.{Limits};
 ghost use Rattle.detector_first_window.specs.FirstWindowClauses.{Swept};
 
 use bit_matrix::Shape;
-use detector_window::Bullseye;
+use detector_window::{Bullseye, Ring};
 
 // The first word of a row. A row's words after it fit too.
 pub fn first_word(shape: Shape, row: u32) -> usize
@@ -22,43 +22,37 @@ fn word_end(column: u32, limit: u32) -> u32
     requires { column + 64 < 2 ^ 32 }
     ensures { result ≡ min (column - column % 64 + 64) limit }
 {
-    let end = column - column % 64 + 64;
-    if end < limit { end } else { limit }
+    (column - column % 64 + 64).min(limit)
 }
 
 // The first window from column `from` on, past the white. Nothing is marked. `changes` has the changes of colour from `column` to before `stop`.
-pub fn sweep(words: &[u64], shape: Shape, row: u32, from: u32, limit: u32) -> Bullseye
+pub fn sweep(words: &[u64], shape: Shape, row: u32, from: u32, limit: u32) -> Option<Bullseye>
     requires { Limits shape × (length words.now ≡ size shape) × (limit ≤ shape.width) }
     ensures { Swept words.now shape row from limit result }
 {
     if limit <= from {
-        return detector_window::no_bullseye();
+        return None;
     }
-    let mut ring = [0u32; 16];
-    ring[0] = from;
-    let mut k: usize = 0;
+    let mut ring = Ring::new(from);
     let mut column = from;
     let mut stop = word_end(from, limit);
     let mut changes = bit_runs::changes(words, first_word(shape, row), from as usize, true);
     loop {
-        let n = u64::trailing_zeros(changes);
+        let n = changes.trailing_zeros();
         let end = column + n;
         if end < stop {
-            if detector_window::closes(&ring, k, end) {
-                return detector_window::get_bullseye_metadata(
-                    detector_window::buckets_of(&ring, k, end),
-                    end,
-                );
+            if let Some(buckets) = ring.closed_by(end) {
+                return Some(detector_window::get_bullseye_metadata(buckets, end));
             }
-            k += 1;
-            ring[k % 16] = end;
+            ring.push(end);
             changes = changes >> n >> 1;
             column = end + 1;
         } else {
             if limit <= stop {
-                return detector_window::no_bullseye();
+                return None;
             }
-            changes = bit_runs::changes(words, first_word(shape, row), stop as usize, k % 2 == 0);
+            let black = ring.is_black();
+            changes = bit_runs::changes(words, first_word(shape, row), stop as usize, black);
             column = stop;
             stop = word_end(stop, limit);
         }

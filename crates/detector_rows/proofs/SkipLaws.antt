@@ -1,10 +1,6 @@
 -- The laws by which white is skipped at once. Assumes nothing.
-use Prim.Native.Nat.{ℕ, zero, suc, ◌+◌, ◌-◌, ◌*◌, ◌<◌}
-use native.Mathlib.Nat.{add-zero, sub-zero}
-use native.Mathlib.Omega.{arith}
-use mathlib.Core.Path.{◌≡◌, ◌∙◌}
-use mathlib.Core.List.{List}
-use lib.ListN.{length}
+use Rattle.std.proofs.Common.{ℕ, zero, suc, ◌+◌, ◌-◌, ◌*◌, ◌<◌, add-zero, arith, ◌≡◌, ◌∙◌, List, length}
+use Rattle.std.proofs.Math.Nat.{sub-zero}
 use Rattle.reads.specs.Reads.{Reads}
 use Rattle.reads.specs.Bits.{mark, mark_all, range}
 use Rattle.reads.proofs.BitsLaws.{length_mark_all, range_last}

@@ -1,6 +1,6 @@
 -- `find_next_bullseye_horizontal` of detector.rs as a reading program, read pixel by pixel.
 -- `valid` is the test of the widths, the whole-number one or the source's in f32 (detector_widths/specs/). Definitions only. Assumes nothing.
-use Rattle.std.specs.Prelude.{ℕ, zero, suc, ◌+◌, ◌-◌, Bool, true, cond, List, replicate}
+use Rattle.std.specs.Prelude.{ℕ, zero, suc, ◌+◌, ◌-◌, Bool, true, cond, List, replicate, Option}
 use Rattle.reads.specs.Reads.{Reads, done, ◌>>=◌}
 use Rattle.bit_matrix.specs.declared.Shape.{Shape}
 use Rattle.bit_matrix.specs.Pixels.{pixel}
@@ -18,7 +18,7 @@ module _ (shape : Shape) (row : ℕ) where
     cond black (done column) (skip_white n (column + 1))
 
 -- `find_next_bullseye_horizontal`: leading white is skipped, and then the runs are counted, in columns below the width less six
-unfoldable pub next_bullseye_by : (List ℕ → Bool) → Shape → ℕ → ℕ → Reads Bullseye
+unfoldable pub next_bullseye_by : (List ℕ → Bool) → Shape → ℕ → ℕ → Reads (Option Bullseye)
 next_bullseye_by valid shape row start = do
   first ← skip_white shape row (shape.width - 6 - start) start
   window_by valid shape row (shape.width - 6 - first) first true 0 (replicate 11 0)

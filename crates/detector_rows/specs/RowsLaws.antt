@@ -1,8 +1,6 @@
 -- What holds of a window that the row search finds, on the image at hand, and that the search with the source's test of the widths is the same.
 -- Assumes nothing.
-use Prim.Native.Nat.{ℕ, zero, suc, ◌+◌, ◌-◌, ◌^◌, ◌≤◌}
-use Rattle.std.proofs.Common.{arith}
-use Rattle.std.specs.Prelude.{Bool, true, replicate}
+use Rattle.std.proofs.Common.{ℕ, zero, suc, ◌+◌, ◌-◌, ◌^◌, ◌≤◌, arith, Bool, true, replicate}
 use Rattle.reads.specs.Reads.{Reads}
 use Rattle.reads.specs.ReadsLaws.{On, Always, Same}
 use Rattle.reads.proofs.ReadsLaws.{on_always, on_bind, always_done, always_after, always_cond, same_refl, same_after}

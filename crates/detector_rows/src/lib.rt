@@ -11,31 +11,22 @@ ghost use Rattle.detector_rows.specs.RowsClauses.{next_bullseye};
 use bit_matrix::Shape;
 use detector_window::Bullseye;
 
-fn greatest(a: usize, b: usize) -> usize
-    ensures { result ≡ max a b }
-{
-    if a < b { b } else { a }
-}
-
 // The first black column from `start` on, or the last that is looked at, the limit.
 fn skip_white(words: &[u64], shape: Shape, row: u32, start: u32, limit: u32) -> u32
     requires { Limits shape }
     ensures { FirstBlack (row_bit words.now (row * shape.row_words)) start (max start limit) result }
 {
     let first = detector_first_window::first_word(shape, row);
-    let from = start as usize;
-    let last = greatest(from, limit as usize);
-    bit_runs::first_black(words, first, from, last) as u32
+    bit_runs::first_black(words, first, start as usize, start.max(limit) as usize) as u32
 }
 
 // The column after the last that a sweep read: it read the one that closed the window.
-fn read_to(eye: Bullseye, limit: u32) -> usize
-    ensures { result ≡ read_to limit eye }
+fn read_to(found: Option<Bullseye>, limit: u32) -> usize
+    ensures { result ≡ read_to limit found }
 {
-    if eye.found {
-        (eye.center as usize) + (eye.radius as usize) + 1
-    } else {
-        limit as usize
+    match found {
+        Some(eye) => eye.center as usize + eye.radius as usize + 1,
+        None => limit as usize,
     }
 }
 
@@ -46,19 +37,19 @@ pub fn find_next_bullseye_horizontal(
     shape: Shape,
     row: u32,
     start_column: u32,
-) -> Bullseye
+) -> Option<Bullseye>
     requires { Image shape words.now marks.old }
     ensures { Ran (next_bullseye shape row start_column) words.now marks.old result marks.new }
 {
     let limit = shape.width - 6;
     let from = skip_white(words, shape, row, start_column, limit);
-    let eye = detector_first_window::sweep(words, shape, row, from, limit);
-    let to = greatest((from as usize) + 1, read_to(eye, limit));
+    let found = detector_first_window::sweep(words, shape, row, from, limit);
+    let to = (from as usize + 1).max(read_to(found, limit));
     bit_runs::mark_range(
         marks,
         detector_first_window::first_word(shape, row),
         start_column as usize,
         to,
     );
-    eye
+    found
 }

@@ -1,5 +1,5 @@
 -- How the code keeps the runs of a window, by the columns where they start, in a ring of sixteen. Definitions only. Assumes nothing.
-use Rattle.std.specs.Prelude.{ℕ, zero, suc, ◌+◌, ◌-◌, ◌%◌, Bool, false, cond, ◌&&◌, List, [], ◌∷◌, leb, ltb, eqb, get_or}
+use Rattle.std.specs.Prelude.{ℕ, zero, suc, ◌+◌, ◌-◌, ◌%◌, Bool, false, cond, ◌&&◌, List, [], ◌∷◌, leb, ltb, eqb, get_or, set, Option, Some, None}
 use Rattle.detector_widths.specs.Widths.{valid_widths}
 
 -- n values of f, from i on
@@ -26,3 +26,11 @@ colour k = eqb (k % 2) 0
 -- whether the first pixel of the run after run k closes the window
 unfoldable pub closing : List ℕ → ℕ → ℕ → Bool
 closing ring k end = cond (ltb k 10) false (colour k && valid_widths (buckets_of ring k end))
+
+-- the runs of the window that it closes, if it closes one
+unfoldable pub closed_by : List ℕ → ℕ → ℕ → Option (List ℕ)
+closed_by ring k end = cond (closing ring k end) (Some (buckets_of ring k end)) None
+
+-- the next run starts at column e
+abbrev pub started : List ℕ → ℕ → ℕ → List ℕ
+started ring k e = set ring ((k + 1) % 16) e

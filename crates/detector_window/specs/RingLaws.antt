@@ -1,17 +1,14 @@
 -- What holds of the runs of a ring: one pixel more in the present run, and the next run begun. Assumes nothing.
-use Prim.Native.Nat.{ℕ, zero, suc, ◌+◌, ◌-◌, ◌%◌, ◌≤◌, ◌<◌, min}
+use Rattle.std.proofs.Common.{ℕ, zero, suc, ◌+◌, ◌-◌, ◌%◌, ◌≤◌, ◌<◌, min, arith, not, cond, ◌≢◌, ◌≡◌, refl, List, ◌∷◌, eqb, length, get_or, set, replicate, sym, ap, ap₂, ◌∙◌, le-leb, ne_eqb, length-set, ext_get_or, get_or-set_same, get_or-set_other}
 use Rattle.std.proofs.Math.Decide.{dec_lt, ℕ_discrete}
-use native.Mathlib.Omega.{arith}
-use Rattle.std.specs.Prelude.{not, cond, ◌≢◌, ◌≡◌, refl, List, ◌∷◌, eqb, length, get_or, set, replicate}
-use Rattle.std.proofs.Common.{sym, ap, ap₂, ◌∙◌, le-leb, ne_eqb, length-set, ext_get_or, get_or-set_same, get_or-set_other}
 use Rattle.std.proofs.lemmas.Bool.{lt-leb}
 use Rattle.detector_widths.specs.Buckets.{bump}
 use Rattle.detector_window.specs.Window.{without_first}
-use Rattle.detector_window.specs.Ring.{tab, edge, count, buckets_of, colour}
+use Rattle.detector_window.specs.Ring.{tab, edge, count, buckets_of, colour, started}
 
 -- ---- tables
 
-length_tab : (f : ℕ → ℕ) (i n : ℕ) → length (tab f i n) ≡ n
+pub length_tab : (f : ℕ → ℕ) (i n : ℕ) → length (tab f i n) ≡ n
 length_tab f i zero = refl
 length_tab f i (suc n) = ap suc (length_tab f (suc i) n)
 
@@ -22,7 +19,7 @@ get_or_tab f i (suc n) (suc j) h =
     let next : suc i + j ≡ i + suc j = omega arith in
     get_or_tab f (suc i) n j (omega arith) ∙ ap f next
 
-at_tab : (f : ℕ → ℕ) (n j : ℕ) → j < n → get_or (tab f 0 n) j 0 ≡ f j
+pub at_tab : (f : ℕ → ℕ) (n j : ℕ) → j < n → get_or (tab f 0 n) j 0 ≡ f j
 at_tab f n j h =
     let start : 0 + j ≡ j = omega arith in
     get_or_tab f 0 n j h ∙ ap f start
@@ -106,10 +103,6 @@ bump_run ring k column low =
     rest i other (no h) = count_none ring k column i (omega arith) ∙ sym (count_none ring k (column + 1) i (omega arith))
 
 -- ---- the next run starts at column e
-
--- the ring with that start
-abbrev pub started : List ℕ → ℕ → ℕ → List ℕ
-started ring k e = set ring ((k + 1) % 16) e
 
 module _ (ring : List ℕ) (k e : ℕ) (size : length ring ≡ 16) where
   started_new : get_or (started ring k e) ((k + 1) % 16) 0 ≡ e

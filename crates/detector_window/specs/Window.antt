@@ -1,5 +1,5 @@
 -- `get_bullseye_metadata` of detector.rs: a window of eleven runs. Definitions only. Assumes nothing.
-use Rattle.std.specs.Prelude.{ℕ, ◌+◌, ◌-◌, ◌/◌, true, false, List, [], ◌∷◌, ◌++◌, drop, replicate}
+use Rattle.std.specs.Prelude.{ℕ, ◌+◌, ◌-◌, ◌/◌, List, [], ◌∷◌, ◌++◌, drop}
 use Rattle.reads.specs.Total.{total}
 use Rattle.detector_window.specs.declared.Bullseye.{Bullseye}
 
@@ -9,10 +9,7 @@ radius_of buckets = (total buckets + 1) / 2
 
 -- of a window that closed at a column
 unfoldable pub metadata : List ℕ → ℕ → Bullseye
-metadata buckets column = record { found = true; center = column - radius_of buckets; radius = radius_of buckets; buckets = buckets }
-
-abbrev pub none : Bullseye
-none = record { found = false; center = 0; radius = 0; buckets = replicate 11 0 }
+metadata buckets column = record { center = column - radius_of buckets; radius = radius_of buckets; buckets = buckets }
 
 -- the first run dropped, and the pixel at hand as the first of a new last one
 abbrev pub without_first : List ℕ → List ℕ

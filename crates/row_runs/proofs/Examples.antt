@@ -1,6 +1,5 @@
 -- The rule on some rows, by computation: the row that docs/MANUAL.md draws, document 01's rows of width 33, and a run that the start cuts. Assumes nothing.
-use Rattle.std.specs.Prelude.{ℕ, zero, suc, ◌*◌, ◌^◌, ◌<◌, Bool, true, false, List, [], ◌∷◌, ◌++◌, map, ◌≡◌, refl, replicate}
-use Rattle.std.proofs.Common.{arith}
+use Rattle.std.proofs.Common.{ℕ, zero, suc, ◌*◌, ◌^◌, ◌<◌, Bool, true, false, List, [], ◌∷◌, ◌++◌, map, ◌≡◌, refl, replicate, arith, Option, Some, None}
 use Rattle.std.proofs.lemmas.Bool.{false≢true}
 use Rattle.reads.specs.Reads.{◌>>=◌, value, trace}
 use Rattle.reads.specs.Bits.{test_bit, bit_at, range}
@@ -10,7 +9,7 @@ use Rattle.bit_matrix.specs.Pixels.{pixel}
 use Rattle.detector_widths.specs.Buckets.{bump}
 use Rattle.detector_widths.specs.Widths.{even_runs_pass, odd_runs_pass, valid_widths}
 use Rattle.detector_window.specs.declared.Bullseye.{Bullseye}
-use Rattle.detector_window.specs.Window.{metadata, none}
+use Rattle.detector_window.specs.Window.{metadata}
 use Rattle.detector_first_window.specs.FirstWindow.{window_by}
 use Rattle.detector_rows.specs.Rows.{skip_white, next_bullseye_by}
 use Rattle.detector_rows.specs.RowsClauses.{next_bullseye}
@@ -39,8 +38,8 @@ by_turns zero = []
 by_turns (suc n) = true ∷ false ∷ by_turns n
 
 -- a window's runs of one pixel each
-abbrev eye_of_ones : ℕ → Bullseye
-eye_of_ones center = record { found = true; center = center; radius = 6; buckets = replicate 11 1 }
+abbrev eye_of_ones : ℕ → Option Bullseye
+eye_of_ones center = Some (record { center = center; radius = 6; buckets = replicate 11 1 })
 
 pub record Drawn : Type 0 where
   -- the start cuts the black run of columns 4 to 8
@@ -108,10 +107,10 @@ pub record Near : Type 0 where
   pub at_15 : Window 27 (searched_runs near_shape 0 6 (singles 15)) 0
   pub found_15 : eye_found near_shape 0 6 (singles 15) ≡ eye_of_ones 20
   pub no_16 : ¬ Window 27 (searched_runs near_shape 0 6 (singles 16)) 0
-  pub none_16 : eye_found near_shape 0 6 (singles 16) ≡ none
+  pub none_16 : eye_found near_shape 0 6 (singles 16) ≡ None
   -- a first run of three columns is too wide; cut by the start it has one
   pub whole_run : ¬ Window 27 (searched_runs near_shape 0 6 wide_first) 0
-  pub none_whole : eye_found near_shape 0 6 wide_first ≡ none
+  pub none_whole : eye_found near_shape 0 6 wide_first ≡ None
   pub cut_run : Window 27 (searched_runs near_shape 0 8 wide_first) 0
   pub found_cut : eye_found near_shape 0 8 wide_first ≡ eye_of_ones 13
   -- with no black pixel column 27 is read, the limit

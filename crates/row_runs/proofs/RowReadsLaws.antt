@@ -1,16 +1,13 @@
 -- Which columns the row search reads (`reads_window`, `reads_no_window`, `reads_white`): from the start to the column that closes the window; with no window
 -- to width − 7, and to width − 6 exactly if none of these is black (`limit_read`). Assumes nothing.
-use Prim.Native.Nat.{ℕ, zero, suc, ◌+◌, ◌-◌, ◌*◌, ◌%◌, ◌≤◌, ◌<◌, max}
+use Rattle.std.proofs.Common.{ℕ, zero, suc, ◌+◌, ◌-◌, ◌*◌, ◌%◌, ◌≤◌, ◌<◌, max, arith, ◌&&◌, ◌⊎◌, ◌↔◌, ◌≡◌, ltb, replicate, inl, inr, ◌∙◌, ltb-true, ltb-false, lt-ltb, List, [], ◌∷◌, ◌++◌, Option, Some, None}
 use Rattle.std.proofs.Math.Decide.{dec_lt}
-use native.Mathlib.Omega.{arith}
 use Rattle.std.proofs.Math.Bool.{Bool, true, false, not, cond}
-use Rattle.std.specs.Prelude.{◌&&◌, ◌⊎◌, ◌↔◌, ◌≡◌, ltb, replicate}
 use Rattle.std.specs.Bool.{beq}
 use Rattle.std.proofs.lemmas.Bool.{false≢true}
-use Rattle.std.proofs.Common.{inl, inr, ◌∙◌, ltb-true, ltb-false, lt-ltb}
 use Rattle.std.proofs.Math.Path.{refl, sym, ap, ap₂}
 use mathlib.Core.List.Memᴰ
-use mathlib.Core.List.{List, [], ◌∷◌, ◌++◌, Memᴰ}
+use mathlib.Core.List.{Memᴰ}
 use Rattle.reads.specs.Reads.{Reads, done, read, ◌>>=◌, value, trace}
 use Rattle.reads.proofs.ReadsLaws.{value_bind, trace_bind}
 use Rattle.reads.specs.Bits.{bit_at, mark_all, range}
@@ -27,7 +24,7 @@ use Rattle.bit_runs.specs.BitRuns.{FirstBlack}
 use Rattle.detector_widths.specs.Buckets.{bump}
 use Rattle.detector_widths.specs.Widths.{valid_widths}
 use Rattle.detector_window.specs.declared.Bullseye.{Bullseye}
-use Rattle.detector_window.specs.Window.{metadata, none, without_first}
+use Rattle.detector_window.specs.Window.{metadata, without_first}
 use Rattle.detector_first_window.specs.FirstWindow.{window_by}
 use Rattle.detector_first_window.specs.FirstWindowClauses.{window_from, read_to}
 use Rattle.detector_first_window.specs.ColouredLaws.{coloured_none}
@@ -90,27 +87,27 @@ module _ (shape : Shape) (row : ℕ) (image : ℕ → Bool) (limit : ℕ)
       go false later = later
 
   -- up to the column that closes the window, or to before the limit
-  abbrev SpansWindow : ℕ → Reads Bullseye → Type 0
+  abbrev SpansWindow : ℕ → Reads (Option Bullseye) → Type 0
   SpansWindow column p = Spans column (read_to limit (value p image)) p
 
-  spans_cond : (column : ℕ) (t : Bool) {p q : Reads Bullseye} → (t ≡ true → SpansWindow column p) → (t ≡ false → SpansWindow column q)
+  spans_cond : (column : ℕ) (t : Bool) {p q : Reads (Option Bullseye)} → (t ≡ true → SpansWindow column p) → (t ≡ false → SpansWindow column q)
       → SpansWindow column (cond t p q)
   spans_cond column true f g = f refl
   spans_cond column false f g = g refl
 
   spans_closed : {start : ℕ} (column pointer : ℕ) (buckets : List ℕ) → CountedRuns start column pointer buckets
-      → SpansWindow (column + 1) (done (metadata buckets column))
+      → SpansWindow (column + 1) (done (Some (metadata buckets column)))
   unfolding value metadata
   spans_closed column pointer buckets counted = spans_done (column + 1) _ _ (omega (arith, counted.sum))
 
-  spans_next : (column : ℕ) (k : Bool → Reads Bullseye) → column ≤ limit → SpansWindow (column + 1) (k (black column))
+  spans_next : (column : ℕ) (k : Bool → Reads (Option Bullseye)) → column ≤ limit → SpansWindow (column + 1) (k (black column))
       → SpansWindow column (pixel shape column row >>= k)
   spans_next column k low rest = rw (value_bind (pixel shape column row) k image) (spans_pixel column _ k low rest)
 
   spans_window : {start : ℕ} (n column : ℕ) (last : Bool) (pointer : ℕ) (buckets : List ℕ) → column + n ≡ limit → CountedRuns start column pointer buckets
       → SpansWindow column (window_from shape row n column last pointer buckets)
   unfolding window_by value
-  spans_window zero column last pointer buckets h counted = spans_done column limit none (omega arith)
+  spans_window zero column last pointer buckets h counted = spans_done column limit None (omega arith)
   spans_window (suc n) column last pointer buckets h counted =
       let seen : Bool = black column in
       spans_next column _ (omega arith)
@@ -179,8 +176,8 @@ module _ {shape : Shape} (limits : Limits shape) (row start : ℕ) (image : ℕ 
   bits_read = trace (next_bullseye shape row start) image
 
   -- its result, and the runs of the row
-  abbrev eye : Bullseye
-  eye = eye_found shape row start image
+  abbrev found : Option Bullseye
+  found = eye_found shape row start image
 
   abbrev pub its_runs : List ColourRun
   its_runs = searched_runs shape row start image
@@ -207,14 +204,14 @@ module _ {shape : Shape} (limits : Limits shape) (row start : ℕ) (image : ℕ 
       let reach : start + (shape.width - 6 - start) ≡ shape.width - 6 = omega arith in
       rw reach at (skips_to shape row image (shape.width - 6 - start) start)
 
-  abbrev scan : ℕ → Reads Bullseye
+  abbrev scan : ℕ → Reads (Option Bullseye)
   scan x = window_from shape row (shape.width - 6 - x) x true 0 (replicate 11 0)
 
-  eye_scanned : eye ≡ value (scan first) image
+  found_scanned : found ≡ value (scan first) image
   unfolding next_bullseye_by
-  eye_scanned = value_bind skip scan image
+  found_scanned = value_bind skip scan image
 
-  covers : ReadsTo (max (first + 1) (read_to (shape.width - 6) eye))
+  covers : ReadsTo (max (first + 1) (read_to (shape.width - 6) found))
   unfolding next_bullseye_by
   covers =
       let limit : ℕ = shape.width - 6 in
@@ -222,23 +219,20 @@ module _ {shape : Shape} (limits : Limits shape) (row start : ℕ) (image : ℕ 
       let skips = spans_skip shape row image limit stored (limit - start) start (omega arith) in
       let scans = spans_window shape row image limit stored {start = start} (limit - first) first true 0 (replicate 11 0) (omega (arith, ends.within))
       (counted_none ends.after) in
-      let reads : bits_read ≡ range (base + start) (first + 1 - start) ++ range (base + first) (read_to limit eye - first) =
+      let reads : bits_read ≡ range (base + start) (first + 1 - start) ++ range (base + first) (read_to limit found - first) =
       trace_bind skip scan image
       ∙ ap₂ ◌++◌ skips.reads
-      (scans.reads ∙ ap (λ (e : Bullseye). range (base + first) (read_to limit e - first)) (sym eye_scanned)) in
-      rw reads (covers_two base start first (read_to limit eye) ends.after)
+      (scans.reads ∙ ap (λ (e : Option Bullseye). range (base + first) (read_to limit e - first)) (sym found_scanned)) in
+      rw reads (covers_two base start first (read_to limit found) ends.after)
 
   -- With a window: up to the column that closes the leftmost one.
   pub reads_window : (k : ℕ) → Leftmost (shape.width - 6) its_runs k → ReadsTo (closing_column its_runs k + 1)
   reads_window k at =
       let reported = leftmost_reported shape row start image (omega arith) k at in
-      let closed = (window_on shape row image {start = first} (shape.width - 6 - first) first true 0 (replicate 11 0) (omega arith)
-      (counted_none (omega arith)) coloured_none).holds (ap (λ (e : Bullseye). e.found) (sym eye_scanned) ∙ reported.found) in
-      let from_first : first ≤ eye.center + eye.radius =
-      rw eye_scanned (omega (arith, closed.after_start)) in
-      let to : max (first + 1) (read_to (shape.width - 6) eye) ≡ closing_column its_runs k + 1 =
-      ap (λ (t : Bool). max (first + 1) (cond t (eye.center + eye.radius + 1) (shape.width - 6))) reported.found
-      ∙ omega (arith, reported.closing, from_first) in
+      let closed = rw (sym found_scanned ∙ reported.found) at (window_on shape row image {start = first} (shape.width - 6 - first) first true 0
+      (replicate 11 0) (omega arith) (counted_none (omega arith)) coloured_none).holds in
+      let to : max (first + 1) (read_to (shape.width - 6) found) ≡ closing_column its_runs k + 1 =
+      rw reported.found (omega (arith, reported.closing, closed.after_start)) in
       rw to at covers
 
   -- With no black column: up to width − 6.
@@ -247,16 +241,16 @@ module _ {shape : Shape} (limits : Limits shape) (row start : ℕ) (image : ℕ 
   reads_white white =
       let all : first ≡ shape.width - 6 = go (dec_lt first (shape.width - 6)) in
       let none_more : shape.width - 6 - first ≡ 0 = omega arith in
-      let nothing : eye ≡ none =
-      eye_scanned ∙ ap (λ (n : ℕ). value (window_from shape row n first true 0 (replicate 11 0)) image) none_more in
-      let to : max (first + 1) (read_to (shape.width - 6) eye) ≡ shape.width - 6 + 1 = rw nothing (omega arith) in
+      let nothing : found ≡ None =
+      found_scanned ∙ ap (λ (n : ℕ). value (window_from shape row n first true 0 (replicate 11 0)) image) none_more in
+      let to : max (first + 1) (read_to (shape.width - 6) found) ≡ shape.width - 6 + 1 = rw nothing (omega arith) in
       rw to at covers
     where
       go : Dec (first < shape.width - 6) → first ≡ shape.width - 6
       go (yes early) = absurd (false≢true (sym (white first ends.after early) ∙ ends.black early))
       go (no h) = omega (arith, ends.within)
 
-  none_found : ((k : ℕ) → ¬ Window (shape.width - 6) its_runs k) → eye ≡ none
+  none_found : ((k : ℕ) → ¬ Window (shape.width - 6) its_runs k) → found ≡ None
   none_found = none_if (row_search shape row start image (omega arith))
 
   module _ (no_window : (k : ℕ) → ¬ Window (shape.width - 6) its_runs k) where
@@ -264,7 +258,7 @@ module _ {shape : Shape} (limits : Limits shape) (row start : ℕ) (image : ℕ 
     pub reads_no_window : (x : ℕ) → start ≤ x → x < shape.width - 6 → row_colours shape image row x ≡ true → ReadsTo (shape.width - 6)
     reads_no_window x after before dark =
         let near : first ≤ x = go (dec_lt x first) in
-        let to : max (first + 1) (read_to (shape.width - 6) eye) ≡ shape.width - 6 = rw (none_found no_window) (omega arith) in
+        let to : max (first + 1) (read_to (shape.width - 6) found) ≡ shape.width - 6 = rw (none_found no_window) (omega arith) in
         rw to at covers
       where
         go : Dec (x < first) → first ≤ x
@@ -295,8 +289,8 @@ module _ {shape : Shape} (limits : Limits shape) (row start : ℕ) (image : ℕ 
 -- ---- of the function's marks
 
 -- what `find_next_bullseye_horizontal` ensures of its marks says that they are one range more
-pub ran_reads : {shape : Shape} (limits : Limits shape) (row start : ℕ) {words before after : List ℕ} {eye : Bullseye} {to : ℕ} (inside : row < shape.height)
-    (low : start < shape.width - 6) → ReadsTo limits row start (bit_at words) inside low to → Ran (next_bullseye shape row start) words before eye after
+pub ran_reads : {shape : Shape} (limits : Limits shape) (row start : ℕ) {words before after : List ℕ} {found : Option Bullseye} {to : ℕ} (inside : row < shape.height)
+    (low : start < shape.width - 6) → ReadsTo limits row start (bit_at words) inside low to → Ran (next_bullseye shape row start) words before found after
     → after ≡ mark_all before (range (row * shape.row_words * 64 + start) (to - start))
 unfolding marks_of
 ran_reads limits row start {before = before} inside low reads ran = ran.marked ∙ reads.marked before

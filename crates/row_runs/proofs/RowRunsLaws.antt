@@ -1,16 +1,13 @@
 -- The colour runs of columns are their pixels (`runs_are`): none is empty, their colours take turns, and joined they give the columns with their colours, in
 -- order; no other list is so (`runs_unique`). Those of a row are its pixels from the first black one at or after the start on (`row_runs_are`).
 -- Assumes nothing.
-use Prim.Native.Nat.{ℕ, zero, suc, ◌+◌, ◌-◌, ◌≤◌, ◌<◌}
+use Rattle.std.proofs.Common.{ℕ, zero, suc, ◌+◌, ◌-◌, ◌≤◌, ◌<◌, arith, Bool, true, false, ◌≡◌, get_or, drop, sym, ◌∙◌, List, [], ◌∷◌, ◌++◌, map, append_assoc}
 use Rattle.std.proofs.Math.Decide.{dec_lt}
-use native.Mathlib.Omega.{arith}
-use Rattle.std.specs.Prelude.{Bool, true, false, ◌≡◌, get_or, drop}
 use Rattle.std.proofs.Math.Bool.{not, cond, not-not}
 use Rattle.std.specs.Bool.{beq}
 use Rattle.std.proofs.lemmas.Bool.{false≢true}
 use Rattle.std.proofs.Math.Path.{refl, ap, ap₂}
-use Rattle.std.proofs.Common.{sym, ◌∙◌}
-use mathlib.Core.List.{List, [], ◌∷◌, ◌++◌, map, map-append, append_assoc}
+use mathlib.Core.List.{map-append}
 use Rattle.std.proofs.Math.ListN.{length}
 use Rattle.reads.specs.Bits.{range}
 use Rattle.reads.proofs.BitsLaws.{range_split}

@@ -1,13 +1,9 @@
 -- The row search of detector_rows answers none exactly where the runs of the row have no window, and the leftmost window elsewhere (`row_search`).
 -- Assumes nothing.
-use Prim.Native.Nat.{ℕ, zero, suc, ◌+◌, ◌-◌, ◌*◌, ◌^◌, ◌≤◌, ◌<◌}
+use Rattle.std.proofs.Common.{ℕ, zero, suc, ◌+◌, ◌-◌, ◌*◌, ◌^◌, ◌≤◌, ◌<◌, arith, Bool, false, cond, ◌↔◌, ◌≡◌, take, drop, replicate, ◌∙◌, List, [], ◌++◌, Option, Some, None}
 use Rattle.std.proofs.Math.Decide.{dec_lt}
-use native.Mathlib.Omega.{arith}
-use Rattle.std.specs.Prelude.{Bool, false, cond, ◌↔◌, ◌≡◌, take, drop, replicate}
 use Rattle.std.proofs.Math.Bool.{true}
 use Rattle.std.proofs.Math.Path.{refl, sym, ap, fun_ext}
-use Rattle.std.proofs.Common.{◌∙◌}
-use mathlib.Core.List.{List, [], ◌++◌}
 use Rattle.std.proofs.Math.ListN.{length}
 use Rattle.reads.specs.Reads.{done, value}
 use Rattle.reads.proofs.ReadsLaws.{value_bind}
@@ -22,7 +18,7 @@ use Rattle.bit_matrix.specs.PixelsLaws.{ran_pixel}
 use Rattle.bit_runs.specs.BitRuns.{row_bit, FirstBlack}
 use Rattle.detector_widths.specs.WidthsF32.{valid_widths_f32}
 use Rattle.detector_window.specs.declared.Bullseye.{Bullseye}
-use Rattle.detector_window.specs.Window.{radius_of, metadata, none}
+use Rattle.detector_window.specs.Window.{radius_of, metadata}
 use Rattle.detector_first_window.specs.FirstWindow.{window_by}
 use Rattle.detector_first_window.specs.FirstWindowClauses.{window_from}
 use Rattle.detector_first_window.specs.FirstWindowLaws.{row_colours}
@@ -76,7 +72,7 @@ module _ (shape : Shape) (row : ℕ) (image : ℕ → Bool) (limit end : ℕ) wh
   black = row_colours shape image row
 
   -- the window, from a column on
-  abbrev window_at : ℕ → Bullseye
+  abbrev window_at : ℕ → Option Bullseye
   window_at x = value (window_from shape row (limit - x) x true 0 (replicate 11 0)) image
 
   -- the white reaches the limit
@@ -127,7 +123,7 @@ module _ (shape : Shape) (row : ℕ) (image : ℕ → Bool) (limit end : ℕ) wh
 
 module _ (shape : Shape) (row start : ℕ) (image : ℕ → Bool) where
   -- the search's result, and the runs of the row
-  abbrev pub eye_found : Bullseye
+  abbrev pub eye_found : Option Bullseye
   eye_found = value (next_bullseye shape row start) image
 
   abbrev pub searched_runs : List ColourRun
@@ -155,32 +151,29 @@ module _ (shape : Shape) (row start : ℕ) (image : ℕ → Bool) where
   row_search_f32 low narrow = rw ((same_rows_f32 shape row start narrow).values image) (row_search low)
 
   -- none exactly if there is no window
-  pub none_exactly : start ≤ shape.width - 6 → (eye_found ≡ none) ↔ ((k : ℕ) → ¬ Window (shape.width - 6) searched_runs k)
+  pub none_exactly : start ≤ shape.width - 6 → (eye_found ≡ None) ↔ ((k : ℕ) → ¬ Window (shape.width - 6) searched_runs k)
   none_exactly low = (none_only_if (row_search low), none_if (row_search low))
 
   -- what is reported of the window at place k
   pub record Reported (k : ℕ) : Type 0 where
-    pub found : eye_found.found ≡ true
-    pub runs : eye_found.buckets ≡ lengths (take 11 (drop k searched_runs))
-    pub half : eye_found.radius ≡ radius_of eye_found.buckets
-    pub closing : eye_found.center + eye_found.radius ≡ closing_column searched_runs k
+    pub eye : Bullseye
+    pub found : eye_found ≡ Some eye
+    pub runs : eye.buckets ≡ lengths (take 11 (drop k searched_runs))
+    pub half : eye.radius ≡ radius_of eye.buckets
+    pub closing : eye.center + eye.radius ≡ closing_column searched_runs k
 
   -- otherwise the leftmost window: its runs, half their sum, and the column that closes it
   pub leftmost_reported : start ≤ shape.width - 6 → (k : ℕ) → Leftmost (shape.width - 6) searched_runs k → Reported k
   unfolding metadata
   leftmost_reported low k at =
-      let is : eye_found ≡ eye_at searched_runs k = leftmost_is (row_search low) k at in
-      let found : eye_found.found ≡ true = ap (λ (eye : Bullseye). eye.found) is in
-      let runs : eye_found.buckets ≡ lengths (take 11 (drop k searched_runs)) = ap (λ (eye : Bullseye). eye.buckets) is in
-      let radius : eye_found.radius ≡ radius_of (lengths (take 11 (drop k searched_runs))) = ap (λ (eye : Bullseye). eye.radius) is in
-      let center : eye_found.center ≡ closing_column searched_runs k - radius_of (lengths (take 11 (drop k searched_runs))) =
-      ap (λ (eye : Bullseye). eye.center) is in
-      let closed = (closed_on shape row start image).holds found in
+      let found : eye_found ≡ Some (eye_at searched_runs k) = leftmost_is (row_search low) k at in
+      let closed = rw found at (closed_on shape row start image).holds in
       record {
+        eye = eye_at searched_runs k;
         found = found;
-        runs = runs;
+        runs = refl;
         half = closed.half;
-        closing = omega (arith, radius, center, closed.half, closed.after_start, closed.eleven_pixels);
+        closing = omega (arith, closed.half, closed.after_start, closed.eleven_pixels);
       }
 
   -- so wherever there is a window
@@ -201,9 +194,9 @@ unfolding value_of
 row_colour shape row words stored = fun_ext λ x. sym (ran_pixel words words shape x row stored refl).result
 
 -- what `find_next_bullseye_horizontal` ensures of its result says that it is the answer over the stored row
-pub ran_answers : (shape : Shape) (row start : ℕ) {words before after : List ℕ} {eye : Bullseye} → start ≤ shape.width - 6 → length words ≡ size shape
-    → Ran (next_bullseye shape row start) words before eye after
-    → RowAnswer (shape.width - 6) (runs_from_black (row_bit words (row * shape.row_words)) start shape.width) eye
+pub ran_answers : (shape : Shape) (row start : ℕ) {words before after : List ℕ} {found : Option Bullseye} → start ≤ shape.width - 6 → length words ≡ size shape
+    → Ran (next_bullseye shape row start) words before found after
+    → RowAnswer (shape.width - 6) (runs_from_black (row_bit words (row * shape.row_words)) start shape.width) found
 unfolding value_of
 ran_answers shape row start {words} low stored ran =
     rw (ran.result, ← row_colour shape row words stored) (row_search shape row start (bit_at words) low)

@@ -1,13 +1,11 @@
 -- The scan of detector_first_window in the middle of a row: it holds the last runs, eleven at most, and comes to the answer over what it holds and what is to
 -- come. Assumes nothing.
-use Prim.Native.Nat.{ℕ, zero, suc, ◌+◌, ◌-◌, ◌≤◌, ◌<◌}
-use Rattle.std.proofs.Common.{arith, sym, ap₂, ◌∙◌, lt-ltb, le-ltb}
-use Rattle.std.specs.Prelude.{Bool, ◌&&◌, ◌≡◌, ltb, set, replicate}
+use Rattle.std.proofs.Common.{ℕ, zero, suc, ◌+◌, ◌-◌, ◌≤◌, ◌<◌, arith, sym, ap₂, ◌∙◌, lt-ltb, le-ltb, Bool, ◌&&◌, ◌≡◌, ltb, set, replicate, List, [], ◌∷◌, ◌++◌, Option, Some}
 use Rattle.std.proofs.Math.Bool.{true, false, not, cond, not-not, and-eq-true_iff}
 use Rattle.std.specs.Bool.{beq}
 use Rattle.std.proofs.lemmas.Bool.{false≢true}
 use Rattle.std.proofs.Math.Path.{refl, ap}
-use mathlib.Core.List.{List, [], ◌∷◌, ◌++◌, map-append}
+use mathlib.Core.List.{map-append}
 use Rattle.std.proofs.Math.ListN.{length, length-append}
 use Rattle.std.proofs.lemmas.List.{length-map, set_at, get_or_at}
 use Rattle.std.proofs.Math.Seq.{append_snoc, get_or-append-add}
@@ -169,7 +167,8 @@ module _ {last : Bool} {pointer : ℕ} {buckets : List ℕ} {r : ColourRun} {ear
 -- ---- the scan comes to the answer
 
 -- the same runs, the same result
-pub answer_same : {limit : ℕ} {rs ss : List ColourRun} {eye seen : Bullseye} → rs ≡ ss → eye ≡ seen → RowAnswer limit ss seen → RowAnswer limit rs eye
+pub answer_same : {limit : ℕ} {rs ss : List ColourRun} {found seen : Option Bullseye} → rs ≡ ss → found ≡ seen → RowAnswer limit ss seen
+    → RowAnswer limit rs found
 answer_same e f answer = rw (e, f) answer
 
 value_cond : {A : Type 0} (t : Bool) (p q : Reads A) (image : ℕ → Bool) → value (cond t p q) image ≡ cond t (value p image) (value q image)
@@ -181,18 +180,18 @@ module _ (shape : Shape) (row : ℕ) (image : ℕ → Bool) where
   black = row_colours shape image row
 
   -- the scan with n columns left
-  abbrev scanned : ℕ → ℕ → Bool → ℕ → List ℕ → Bullseye
+  abbrev scanned : ℕ → ℕ → Bool → ℕ → List ℕ → Option Bullseye
   scanned n column last pointer buckets = value (window_from shape row n column last pointer buckets) image
 
   -- what is left to do on a pixel
-  abbrev step : ℕ → ℕ → Bool → ℕ → List ℕ → Bool → Reads Bullseye
+  abbrev step : ℕ → ℕ → Bool → ℕ → List ℕ → Bool → Reads (Option Bullseye)
   step n column last pointer buckets seen =
       cond (beq seen last)
       (window_from shape row n (column + 1) last pointer (bump buckets pointer))
       (cond (ltb pointer 10)
       (window_from shape row n (column + 1) seen (pointer + 1) (bump buckets (pointer + 1)))
       (cond (valid_widths buckets && not seen)
-      (done (metadata buckets column))
+      (done (Some (metadata buckets column)))
       (window_from shape row n (column + 1) seen pointer (without_first buckets))))
 
   scan_step : (n column : ℕ) (last : Bool) (pointer : ℕ) (buckets : List ℕ)
@@ -207,12 +206,12 @@ module _ (shape : Shape) (row : ℕ) (image : ℕ → Bool) where
 
   module _ (n column : ℕ) (last : Bool) (pointer : ℕ) (buckets : List ℕ) where
     -- the next run begun
-    abbrev begun : Bullseye
+    abbrev begun : Option Bullseye
     begun = scanned n (column + 1) (not last) (pointer + 1) (bump buckets (pointer + 1))
 
     -- eleven runs tested
-    abbrev tried : Bool → Bullseye
-    tried pass = cond pass (metadata buckets column) (scanned n (column + 1) (not last) pointer (without_first buckets))
+    abbrev tried : Bool → Option Bullseye
+    tried pass = cond pass (Some (metadata buckets column)) (scanned n (column + 1) (not last) pointer (without_first buckets))
 
     step_other : value (step n column last pointer buckets (not last)) image ≡ cond (ltb pointer 10) begun (tried (valid_widths buckets && not (not last)))
     unfolding value
@@ -220,7 +219,7 @@ module _ (shape : Shape) (row : ℕ) (image : ℕ → Bool) where
       where
         by_last : (seen : Bool) → value (step n column seen pointer buckets (not seen)) image
             ≡ cond (ltb pointer 10) (scanned n (column + 1) (not seen) (pointer + 1) (bump buckets (pointer + 1)))
-            (cond (valid_widths buckets && not (not seen)) (metadata buckets column) (scanned n (column + 1) (not seen) pointer (without_first buckets)))
+            (cond (valid_widths buckets && not (not seen)) (Some (metadata buckets column)) (scanned n (column + 1) (not seen) pointer (without_first buckets)))
         by_last true = value_cond (ltb pointer 10) _ _ image ∙ ap (cond (ltb pointer 10) _) (value_cond (valid_widths buckets && true) _ _ image)
         by_last false = value_cond (ltb pointer 10) _ _ image ∙ ap (cond (ltb pointer 10) _) (value_cond (valid_widths buckets && false) _ _ image)
 
@@ -317,7 +316,7 @@ module _ (shape : Shape) (row : ℕ) (image : ℕ → Bool) where
                 → RowAnswer limit all (tried n column last pointer buckets t)
             tested true test =
                 answer_same all_is
-                (ap (metadata buckets) (sym begins.first) ∙ eye_is held limit next begins.others turned low)
+                (ap (λ (x : ℕ). Some (metadata buckets x)) (sym begins.first) ∙ ap Some (eye_is held limit next begins.others turned low))
                 (first_answers (test_window held limit next begins.others turned low test))
             tested false test =
                 first_dropped

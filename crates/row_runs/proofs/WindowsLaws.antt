@@ -1,12 +1,9 @@
 -- What a window is (`window_is`), that a run with which none begins can be dropped (`first_dropped`), and what an answer tells. Assumes nothing.
-use Rattle.std.specs.Prelude.{ℕ, zero, suc, ◌+◌, ◌≤◌, ◌<◌, true, false, ◌↔◌, ◌≡◌, refl, List, [], ◌∷◌, ◌++◌, length, take, drop}
+use Rattle.std.proofs.Common.{ℕ, zero, suc, ◌+◌, ◌≤◌, ◌<◌, true, false, ◌↔◌, ◌≡◌, refl, List, [], ◌∷◌, ◌++◌, length, take, drop, Option, Some, None, arith, sym, ap, ◌∙◌, length-append, length-drop, take_at, get_or-drop}
 use Rattle.std.proofs.Math.Decide.{dec_lt}
-use Rattle.std.proofs.Common.{arith, sym, ap, ◌∙◌, length-append, length-drop, take_at, get_or-drop}
-use Rattle.std.proofs.lemmas.Bool.{false≢true}
 use Rattle.std.proofs.lemmas.List.{get_or_at}
 use Rattle.detector_widths.specs.Widths.{valid_widths}
 use Rattle.detector_window.specs.declared.Bullseye.{Bullseye}
-use Rattle.detector_window.specs.Window.{metadata, none}
 use Rattle.row_runs.specs.RowRuns.{ColourRun, run_at, lengths, Opens, Window, Leftmost, eye_at, RowAnswer, nowhere, leftmost}
 
 -- ---- what a window is
@@ -59,8 +56,8 @@ module _ (r : ColourRun) (ten : List ColourRun) (next : ColourRun) (rs : List Co
 -- ---- dropping the first run loses no window
 
 -- Where no window begins with the first run, the answer over the others is the answer over all.
-pub first_dropped : {limit : ℕ} {r : ColourRun} {rs : List ColourRun} {eye : Bullseye} → ¬ Window limit (r ∷ rs) 0 → RowAnswer limit rs eye
-    → RowAnswer limit (r ∷ rs) eye
+pub first_dropped : {limit : ℕ} {r : ColourRun} {rs : List ColourRun} {found : Option Bullseye} → ¬ Window limit (r ∷ rs) 0 → RowAnswer limit rs found
+    → RowAnswer limit (r ∷ rs) found
 first_dropped {limit} {r} {rs} no_first (nowhere no_later is) = nowhere each is
   where
     each : (k : ℕ) → ¬ Window limit (r ∷ rs) k
@@ -73,7 +70,7 @@ first_dropped {limit} {r} {rs} no_first (leftmost k at is) = leftmost (suc k) (r
     before (suc j) low = at.none_before j (omega arith)
 
 -- a window that begins with the first run is the leftmost
-pub first_answers : {limit : ℕ} {rs : List ColourRun} → Window limit rs 0 → RowAnswer limit rs (eye_at rs 0)
+pub first_answers : {limit : ℕ} {rs : List ColourRun} → Window limit rs 0 → RowAnswer limit rs (Some (eye_at rs 0))
 first_answers w = leftmost 0 (record { window = w; none_before = λ j low. absurd (omega arith) }) refl
 
 -- no window is closed where every run from the twelfth on begins at or past the limit
@@ -86,35 +83,34 @@ none_late limit rs late k w =
 
 -- ---- what an answer tells
 
-module _ {limit : ℕ} {rs : List ColourRun} {eye : Bullseye} (answer : RowAnswer limit rs eye) where
+module _ {limit : ℕ} {rs : List ColourRun} {found : Option Bullseye} (answer : RowAnswer limit rs found) where
   -- none, if there is no window
-  pub none_if : ((k : ℕ) → ¬ Window limit rs k) → eye ≡ none
+  pub none_if : ((k : ℕ) → ¬ Window limit rs k) → found ≡ None
   none_if no_window = go answer
     where
-      go : RowAnswer limit rs eye → eye ≡ none
+      go : RowAnswer limit rs found → found ≡ None
       go (nowhere _ is) = is
       go (leftmost k at is) = absurd (no_window k at.window)
 
   -- and only then
-  pub none_only_if : eye ≡ none → (k : ℕ) → ¬ Window limit rs k
-  unfolding metadata
+  pub none_only_if : found ≡ None → (k : ℕ) → ¬ Window limit rs k
   none_only_if e = go answer
     where
-      go : RowAnswer limit rs eye → (k : ℕ) → ¬ Window limit rs k
+      go : RowAnswer limit rs found → (k : ℕ) → ¬ Window limit rs k
       go (nowhere no_window is) = no_window
-      go (leftmost k at is) = absurd (false≢true (ap (λ (b : Bullseye). b.found) (sym e ∙ is)))
+      go (leftmost k at is) = cc
 
   -- the leftmost window, if there is one
-  pub leftmost_is : (k : ℕ) → Leftmost limit rs k → eye ≡ eye_at rs k
+  pub leftmost_is : (k : ℕ) → Leftmost limit rs k → found ≡ Some (eye_at rs k)
   leftmost_is k here = go answer
     where
-      go : RowAnswer limit rs eye → eye ≡ eye_at rs k
+      go : RowAnswer limit rs found → found ≡ Some (eye_at rs k)
       go (nowhere no_window is) = absurd (no_window k here.window)
       go (leftmost j at is) = which (dec_lt j k) (dec_lt k j)
         where
-          which : Dec (j < k) → Dec (k < j) → eye ≡ eye_at rs k
+          which : Dec (j < k) → Dec (k < j) → found ≡ Some (eye_at rs k)
           which (yes before) other = absurd (here.none_before j before at.window)
           which (no _) (yes before) = absurd (at.none_before k before here.window)
           which (no a) (no b) =
               let same : j ≡ k = omega arith in
-              is ∙ ap (eye_at rs) same
+              is ∙ ap (λ (i : ℕ). Some (eye_at rs i)) same

@@ -1,11 +1,11 @@
 -- `find_next_bullseye_horizontal` of detector.rs said over the colour runs of a row: what a window is, and which one the search is to answer. Nothing is
 -- scanned, and nothing is read. Definitions only. Assumes nothing.
-use Rattle.std.specs.Prelude.{ℕ, ◌+◌, ◌-◌, ◌<◌, Bool, true, false, cond, ◌≡◌, List, [], ◌∷◌, map, length, get_or, take, drop}
+use Rattle.std.specs.Prelude.{ℕ, ◌+◌, ◌-◌, ◌<◌, Bool, true, false, cond, ◌≡◌, List, [], ◌∷◌, map, length, get_or, take, drop, Option, Some, None}
 use Rattle.std.specs.Bool.{beq}
 use Rattle.reads.specs.Bits.{range}
 use Rattle.detector_widths.specs.Widths.{valid_widths}
 use Rattle.detector_window.specs.declared.Bullseye.{Bullseye}
-use Rattle.detector_window.specs.Window.{metadata, none}
+use Rattle.detector_window.specs.Window.{metadata}
 
 -- ---- the colour runs of columns, black as true
 
@@ -81,6 +81,6 @@ abbrev pub eye_at : List ColourRun → ℕ → Bullseye
 eye_at rs k = metadata (lengths (take 11 (drop k rs))) (closing_column rs k)
 
 -- what a search is to answer: none, where there is no window, and the leftmost one elsewhere
-pub data RowAnswer (limit : ℕ) (rs : List ColourRun) (eye : Bullseye) : Type 0 where
-  nowhere : ((k : ℕ) → ¬ Window limit rs k) → eye ≡ none → RowAnswer limit rs eye
-  leftmost : (k : ℕ) → Leftmost limit rs k → eye ≡ eye_at rs k → RowAnswer limit rs eye
+pub data RowAnswer (limit : ℕ) (rs : List ColourRun) (found : Option Bullseye) : Type 0 where
+  nowhere : ((k : ℕ) → ¬ Window limit rs k) → found ≡ None → RowAnswer limit rs found
+  leftmost : (k : ℕ) → Leftmost limit rs k → found ≡ Some (eye_at rs k) → RowAnswer limit rs found

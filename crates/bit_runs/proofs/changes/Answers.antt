@@ -1,14 +1,9 @@
 -- `bit_runs::changes` meets its contract: the union of a word moved up and a bit has each bit's predecessor in its place.
-use Prim.Native.Nat.{ℕ, zero, suc, ◌+◌, ◌-◌, ◌*◌, ◌/◌, ◌%◌, ◌^◌, ◌<◌}
-use mathlib.Core.Bool.{Bool, true, false, not, xor}
-use mathlib.Core.Path.{◌≡◌, refl, sym, ap, ap₂, ◌∙◌}
-use mathlib.Core.List.{List}
-use native.Mathlib.Nat.{div-eq_of_lt, div-one}
-use native.Mathlib.Omega.{arith}
+use Rattle.std.proofs.Common.{ℕ, zero, suc, ◌+◌, ◌-◌, ◌*◌, ◌/◌, ◌%◌, ◌^◌, ◌<◌, Bool, true, false, not, ◌≡◌, refl, sym, ap, ap₂, ◌∙◌, List, div-one, arith, eqb, get_or, shr-shr}
+use Rattle.std.proofs.Math.Bool.{xor}
+use Rattle.std.proofs.Math.Nat.{div-eq_of_lt}
 use lib.Bits.{bit_or, bit_xor, or_zero_r, or_shr, or_mod, xor_shr, xor_mod}
-use lib.Dec.{eqb}
-use lib.ListN.{get_or}
-use lib.Pow.{field, mod-mod-pow, pow-lt, shl-shr, shr-shr}
+use Rattle.std.proofs.Math.Pow.{field, mod-mod-pow, pow-lt, shl-shr}
 use Rattle.reads.specs.Bits.{digit, test_bit}
 use Rattle.reads.proofs.BitsLaws.{digit_low}
 use Rattle.bit_runs.specs.BitRuns.{row_bit, Changes}

@@ -1,8 +1,5 @@
 -- `detector_rows::find_next_bullseye_horizontal` meets its contract: the columns of the white and of the sweep are marked at once.
-use Prim.Native.Nat.{ℕ, ◌+◌, ◌-◌, ◌*◌, max}
-use mathlib.Core.Path.{◌≡◌, ◌∙◌}
-use mathlib.Core.List.{List}
-use native.Mathlib.Omega.{arith}
+use Rattle.std.proofs.Common.{ℕ, ◌+◌, ◌-◌, ◌*◌, max, ◌≡◌, ◌∙◌, List, arith, Option}
 use Rattle.reads.specs.Bits.{mark_all, range}
 use Rattle.reads.proofs.BitsLaws.{length_mark_all}
 use Rattle.reads.specs.RunsClauses.{Ran}
@@ -18,20 +15,20 @@ use Rattle.detector_window.specs.declared.Bullseye.{Bullseye}
 use Rattle.detector_rows.proofs.SkipLaws.{ran_skip}
 use Rattle.detector_rows.proofs.find_next_bullseye_horizontal.Goals as goal
 
-module _ (shape : Shape) (row start : ℕ) (words m₀ : List ℕ) {m₁ : List ℕ} {from read to first : ℕ} {eye : Bullseye}
+module _ (shape : Shape) (row start : ℕ) (words m₀ : List ℕ) {m₁ : List ℕ} {from read to first : ℕ} {found : Option Bullseye}
     (image : Image shape words m₀) (skipped : FirstBlack (row_bit words (row * shape.row_words)) start (max start (shape.width - 6)) from)
-    (swept : Swept words shape row from (shape.width - 6) eye) (last : read ≡ read_to (shape.width - 6) eye) (end : to ≡ max (from + 1) read)
+    (swept : Swept words shape row from (shape.width - 6) found) (last : read ≡ read_to (shape.width - 6) found) (end : to ≡ max (from + 1) read)
     (here : first ≡ row * shape.row_words) (marked : m₁ ≡ mark_all m₀ (range (first * 64 + start) (to - start))) where
   -- the white's marks and the sweep's are those of one range
   joined : mark_all (mark_all m₀ (range (row * shape.row_words * 64 + start) (from + 1 - start)))
-      (range (row * shape.row_words * 64 + from) (read_to (shape.width - 6) eye - from)) ≡ m₁
+      (range (row * shape.row_words * 64 + from) (read_to (shape.width - 6) found - from)) ≡ m₁
   joined =
       let white : from + 1 - start ≡ from - start + 1 = omega (arith, skipped.after) in
       let there : row * shape.row_words * 64 + from ≡ row * shape.row_words * 64 + start + (from - start) = omega (arith, skipped.after) in
-      let all : from - start + max (read_to (shape.width - 6) eye - from) 1 ≡ to - start = omega (arith, skipped.after, last, end) in
+      let all : from - start + max (read_to (shape.width - 6) found - from) 1 ≡ to - start = omega (arith, skipped.after, last, end) in
       rw (white, there, range_again, all, marked, here)
 
-  whole : Ran (next_bullseye shape row start) words m₀ eye m₁
+  whole : Ran (next_bullseye shape row start) words m₀ found m₁
   unfolding next_bullseye_by
   whole =
       let reach : max start (shape.width - 6) ≡ start + (shape.width - 6 - start) = omega arith in
@@ -46,13 +43,13 @@ mark_range-requires c =
       arith,
       skipped.ensures.after,
       skipped.ensures.within,
-      c.sweep-eye.ensures.within,
+      c.sweep-found.ensures.within,
       c.read_to.ensures,
-      c.greatest-to.ensures,
+      c.max-to.ensures,
       c.first_word.ensures.1,
     )
 
 pub returns : goal.returns
 returns c =
-    whole _ _ _ _ _ c.requires c.skip_white-from.ensures c.sweep-eye.ensures
-    c.read_to.ensures c.greatest-to.ensures c.first_word.ensures.0 c.mark_range.ensures
+    whole _ _ _ _ _ c.requires c.skip_white-from.ensures c.sweep-found.ensures
+    c.read_to.ensures c.max-to.ensures c.first_word.ensures.0 c.mark_range.ensures
