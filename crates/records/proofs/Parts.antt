@@ -1,7 +1,6 @@
 -- The part of a list that a record's range of indices picks. Assumes nothing.
 use Rattle.std.specs.Prelude.{ℕ, ◌+◌, ◌-◌, ◌*◌, ◌≡◌, List, ◌++◌, take, drop}
-use Rattle.std.proofs.Common.{arith, sym, ap, ◌∙◌, drop-drop}
-use mathlib.Core.List.{append_assoc}
+use Rattle.std.proofs.Common.{arith, sym, ap, ◌∙◌, drop-drop, append_assoc}
 use Rattle.std.proofs.Math.Seq.{paste}
 use Rattle.records.specs.RecordsClauses.{get, put}
 
