@@ -5,7 +5,7 @@ ghost use Rattle.std.specs.Prelude.{◌≡◌, ◌+◌, ◌*◌, ◌≤◌, ◌+
 ghost use Rattle.records.specs.Records.{capacity_of};
 ghost use Rattle.records.specs.RecordsClauses.{get, put};
 
-// The places of a record's words: eleven runs from ROW_RUNS on, eleven from COLUMN_RUNS on, four corners, x before y, from CORNERS on.
+// The places of a record's words, which C hosts read: eleven runs from ROW_RUNS on, eleven from COLUMN_RUNS on, four corners, x before y, from CORNERS on.
 pub const CENTER_X: usize = 0;
 
 pub const CENTER_Y: usize = 1;
@@ -36,8 +36,7 @@ pub const CLASS: usize = 39;
 pub fn capacity_of(n: usize) -> usize
     ensures { result ≡ capacity_of n }
 {
-    let whole = n / 40;
-    if whole < 1024 { whole } else { 1024 }
+    (n / 40).min(1024)
 }
 
 // Record i.
@@ -46,11 +45,7 @@ pub fn load(records: &[u32], i: usize) -> [u32; 40]
     ensures { result ≡ get records.now i }
 {
     let mut fields = [0u32; 40];
-    let mut k = 0usize;
-    while k < 40 {
-        fields[k] = records[40 * i + k];
-        k += 1;
-    }
+    fields.copy_from_slice(&records[40 * i..40 * i + 40]);
     fields
 }
 
@@ -59,11 +54,7 @@ pub fn store(records: &mut [u32], i: usize, fields: &[u32; 40])
     requires { (40 * i + 40 ≤ length records.old) × (length fields.now ≡ 40) }
     ensures { records.new ≡ put records.old i fields.now }
 {
-    let mut k = 0usize;
-    while k < 40 {
-        records[40 * i + k] = fields[k];
-        k += 1;
-    }
+    records[40 * i..40 * i + 40].copy_from_slice(fields);
 }
 
 // Record i, over record j.
@@ -71,14 +62,10 @@ pub fn copy(records: &mut [u32], i: usize, j: usize)
     requires { (40 * i + 40 ≤ length records.old) × (40 * j + 40 ≤ length records.old) }
     ensures { records.new ≡ put records.old j (get records.old i) }
 {
-    if i == j {
-        return;
-    }
-    let fields = load(records, i);
-    store(records, j, &fields);
+    records.copy_within(40 * i..40 * i + 40, 40 * j);
 }
 
-// Records i and j change places.
+// Records i and j change places. `as_chunks_mut` would give `swap` records to exchange, but no contract says what the slice is then.
 pub fn swap(records: &mut [u32], i: usize, j: usize)
     requires { (40 * i + 40 ≤ length records.old) × (40 * j + 40 ≤ length records.old) }
     ensures { records.new ≡ put (put records.old i (get records.old j)) j (get records.old i) }
@@ -94,9 +81,5 @@ pub fn clear(records: &mut [u32], from: usize, count: usize)
     requires { from + count ≤ length records.old }
     ensures { records.new ≡ take from records.old ++ replicate count 0 ++ drop (from + count) records.old }
 {
-    let mut k = 0usize;
-    while k < count {
-        records[from + k] = 0;
-        k += 1;
-    }
+    records[from..from + count].fill(0);
 }

@@ -1,20 +1,7 @@
--- `records::load` meets its contract: a copy of 40 words into an array.
-use native.Mathlib.Nat.{zero-add}
-use mathlib.Core.Path.{sym, ◌∙◌}
-use mathlib.Core.List.{append-nil}
-use Rattle.records.specs.RecordsLaws.{length_get, get_word}
-use Rattle.records.specs.CopiesLaws.{begins, onward, over}
-use borrow.Author.Rules.{rules}
+-- `records::load` meets its contract: the record's words.
+use Rattle.std.proofs.Common.{◌∙◌}
+use Rattle.records.proofs.Parts.{part_read}
 use Rattle.records.proofs.load.Goals as goal
 
-pub loop-k-init : goal.loop-k-init
-loop-k-init c = search (begins, length_get, rules)
-
-pub loop-k-preserved : goal.loop-k-preserved
-loop-k-preserved c =
-    let k = c.loop-k.k in
-    onward c.loop-k.invariant (search rules) (sym (zero-add k))
-    (sym (get_word c.args.records.now c.args.i k (search rules)))
-
 pub returns : goal.returns
-returns c = over c.loop-k.invariant (search rules) ∙ append-nil _
+returns c = c.copy_from_slice.ensures.after ∙ part_read _ _

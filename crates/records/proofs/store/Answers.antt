@@ -1,15 +1,8 @@
--- `records::store` meets its contract: a copy of 40 words.
+-- `records::store` meets its contract: the words, between those before and after.
+use Rattle.std.proofs.Common.{ap, ◌∙◌}
 use Rattle.records.specs.RecordsClauses.{put}
-use Rattle.records.specs.CopiesLaws.{begins, onward, over}
-use borrow.Author.Rules.{rules}
+use Rattle.records.proofs.Parts.{part_written}
 use Rattle.records.proofs.store.Goals as goal
 
-pub loop-k-init : goal.loop-k-init
-loop-k-init c = search (begins, rules)
-
-pub loop-k-preserved : goal.loop-k-preserved
-loop-k-preserved c = search (onward, rules)
-
 pub returns : goal.returns
-unfolding put
-returns c = search over
+returns c = part_written _ _ _ ∙ ap (put c.args.records.now c.args.i) c.copy_from_slice.ensures.after
