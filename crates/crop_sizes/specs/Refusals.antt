@@ -1,6 +1,7 @@
 -- The numbers of the reasons to refuse: docs/MANUAL.md, "Answers". Assumes nothing.
 use Rattle.std.specs.Prelude.{ℕ, Result, Ok, Err, ◌≡◌}
-use Rattle.std.proofs.Common.{arith}
+use Rattle.std.specs.Result.{IsErrAnd}
+use Rattle.std.proofs.Common.{arith, ap}
 use Rattle.crop_sizes.specs.declared.Refusal.{Refusal}
 use Rattle.crop_sizes.specs.declared.Refusal.TheVariants.{Header, Side, Words, Length, Padding, Lent}
 
@@ -24,3 +25,8 @@ number_some Words e = omega arith
 number_some Length e = omega arith
 number_some Padding e = omega arith
 number_some Lent e = omega arith
+
+-- the number that `?` passes on
+pub carried : {A : Type 0} (r : Result A Refusal) (refusal : Refusal) → IsErrAnd r (λ e. e ≡ refusal) → answer_of r ≡ number_of refusal
+carried (Ok value) refusal is = absurd is
+carried (Err e) refusal is = ap number_of is

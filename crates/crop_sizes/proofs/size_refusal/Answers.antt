@@ -24,10 +24,10 @@ pub returns-then-is_outside : goal.returns-then-is_outside
 unfolding image_refusal
 returns-then-is_outside c =
     elim c.then-is_outside.branch [
-      then-is_outside-via-then-is_outside w ↦
-        chain_here _ _ (either_left _ (sym c.is_outside.ensures ∙ w.if-is_outside.true)) refl
-    | then-is_outside-via-else-is_outside+then-is_outside-2 w ↦
-        chain_here _ _ (either_right _ (sym w.is_outside-else-is_outside.ensures ∙ w.if-is_outside-2.true)) refl
+      | then-is_outside-via-then-is_outside w ↦
+          chain_here _ _ (either_left _ (sym c.is_outside.ensures ∙ w.if-is_outside.true)) refl
+      | then-is_outside-via-else-is_outside+then-is_outside-2 w ↦
+          chain_here _ _ (either_right _ (sym w.is_outside-else-is_outside.ensures ∙ w.if-is_outside-2.true)) refl
     ]
 
 pub returns-then-image_words-gt8000 : goal.returns-then-image_words-gt8000
