@@ -1,17 +1,27 @@
 -- What the clauses of functions name: a file that was checked, and what holds where there is no number. Assumes nothing.
-use Rattle.std.specs.Prelude.{ℕ, ◌≤◌, Bool, false, cond, List, ◌≡◌, eqb, length}
+use Rattle.std.specs.Prelude.{ℕ, ◌≤◌, Bool, true, false, cond, List, Result, Ok, Err, IfOk, ◌≡◌, eqb, length}
 use Rattle.bit_matrix.specs.declared.Shape.{Shape}
-use Rattle.bit_matrix.specs.Shape.{shape_of}
 use Rattle.bit_matrix.specs.ShapeClauses.{Image}
+use Rattle.crop_sizes.specs.declared.Refusal.{Refusal}
+use Rattle.crop_sizes.specs.Refusals.{number_of, answer_of}
 use Rattle.crop_padding.specs.Padding.{words_padded}
 use Rattle.crop_rows.specs.UnpackClauses.{FileAccepted}
-use Rattle.crop.specs.Crop.{file_shape, refusal}
-use Rattle.crop.specs.declared.Checked.{Checked}
+use Rattle.crop.specs.Crop.{file_shape, bad_header, file_kind, refusal}
 
--- what the check of a file gives: its number, and its image's shape, or that of no image where it is refused
-pub record Checks (file : List ℕ) (r : Checked) : Type 0 where
-  pub answer : r.answer ≡ refusal file
-  pub shape : r.shape ≡ cond (eqb r.answer 0) (file_shape file) (shape_of 0 0)
+-- what a file's header gives: number 1, or its image's shape
+abbrev pub HeadedBy : List ℕ → Result Shape Refusal → Type 0
+HeadedBy file (Ok shape) = (bad_header file_kind file ≡ false) × (shape ≡ file_shape file)
+HeadedBy file (Err refusal) = (bad_header file_kind file ≡ true) × (number_of refusal ≡ 1)
+
+-- what the check of a file gives: its number, or its image's shape
+pub record Checks (file : List ℕ) (r : Result Shape Refusal) : Type 0 where
+  pub answer : answer_of r ≡ refusal file
+  pub shape : IfOk r (λ shape. shape ≡ file_shape file)
+
+-- the number of a file that was checked, or where it has none the number 6 of what is lent for its image
+abbrev pub or_lent : Result Shape Refusal → (Shape → Bool) → ℕ
+or_lent (Ok shape) unfit = cond (unfit shape) 6 0
+or_lent (Err refusal) unfit = number_of refusal
 
 -- a number, or where it is 0 the number 6 of what is lent
 unfoldable pub or_six : ℕ → Bool → ℕ

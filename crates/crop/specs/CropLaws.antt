@@ -1,13 +1,15 @@
 -- What holds of files and images in words that are not refused, 6 after the other numbers, and the numbers of a file that was checked. Assumes nothing.
-use Rattle.std.specs.Prelude.{ℕ, ◌≤◌, Bool, ◌||◌, List, ◌≡◌, ltb, length}
+use Rattle.std.specs.Prelude.{ℕ, ◌≤◌, Bool, ◌||◌, List, Result, Ok, Err, IfOk, ◌≡◌, ltb, length}
 use Rattle.std.proofs.Common.{arith, ◌∙◌, ltb-false, eqb-true, eq-eqb, ne_eqb}
 use Rattle.std.proofs.Math.Bool.{true, false, cond}
-use Rattle.std.proofs.Math.Path.{refl, sym, ap, subst⁻¹}
+use Rattle.std.proofs.Math.Path.{refl, sym, ap, subst, subst⁻¹}
 use Rattle.std.proofs.lemmas.Bool.{eqb-false, not-false}
 use Rattle.std.proofs.Math.Dec.{eqb}
 use Rattle.bit_matrix.specs.declared.Shape.{Shape}
 use Rattle.bit_matrix.specs.Shape.{row_words, shape_of, size}
 use Rattle.bit_matrix.specs.ShapeClauses.{Limits}
+use Rattle.crop_sizes.specs.declared.Refusal.{Refusal}
+use Rattle.crop_sizes.specs.Refusals.{number_some}
 use Rattle.crop_sizes.specs.ChainLaws.{chain_here, chain_next, chain}
 use Rattle.crop_sizes.specs.Sizes.{file_length, least_side, outside, misfit, image_refusal}
 use Rattle.crop_sizes.specs.SizesLaws.{chain_past, both_fail, rows_of, image_within}
@@ -30,8 +32,7 @@ use Rattle.crop.specs.Crop.{
   words_refusal,
   refused_or,
 }
-use Rattle.crop.specs.CropClauses.{Checks, or_six, WordsAccepted, FileReady}
-use Rattle.crop.specs.declared.Checked.{Checked}
+use Rattle.crop.specs.CropClauses.{Checks, or_lent, or_six, WordsAccepted, FileReady}
 
 -- ---- refused, or accepted
 
@@ -147,49 +148,46 @@ six_past n unfit none = go (eqb n 0) refl none
 
 -- ---- a file that was checked
 
-module _ {file : List ℕ} {c : Checked} (checks : Checks file c) where
-  pub checked_rows : c.shape.row_words ≡ row_words c.shape.width
-  checked_rows = go (eqb c.answer 0) checks.shape
-    where
-      go : (t : Bool) → c.shape ≡ cond t (file_shape file) (shape_of 0 0) → c.shape.row_words ≡ row_words c.shape.width
-      go true is = rows_of is
-      go false is = rows_of is
+pub checked_rows : {file : List ℕ} (c : Result Shape Refusal) → Checks file c → IfOk c (λ s. s.row_words ≡ row_words s.width)
+checked_rows (Ok shape) checks = rows_of checks.shape
+checked_rows (Err refusal) checks = tt
 
-  pub checked_shape : c.answer ≡ 0 → c.shape ≡ file_shape file
-  checked_shape zero = checks.shape ∙ ap (λ (t : Bool). cond t (file_shape file) (shape_of 0 0)) (eq-eqb c.answer 0 zero)
+-- its number, or 6 for buffers by the words of its image
+by_words : {file : List ℕ} (c : Result Shape Refusal) → Checks file c → (unfit : ℕ → Bool)
+    → or_lent c (λ s. unfit (size s)) ≡ refusal_of file_kind least_side file (unfit (file_words file))
+unfolding or_six
+by_words {file} (Ok shape) checks unfit =
+    ap (λ (s : Shape). cond (unfit (size s)) 6 0) checks.shape ∙ ap (λ (n : ℕ). or_six n (unfit (file_words file))) checks.answer
+    ∙ sym (refusal_six file_kind least_side file (unfit (file_words file)))
+by_words {file} (Err refusal) checks unfit =
+    six_kept (unfit (file_words file)) (number_some refusal) ∙ ap (λ (n : ℕ). or_six n (unfit (file_words file))) checks.answer
+    ∙ sym (refusal_six file_kind least_side file (unfit (file_words file)))
 
-  -- its number, or 6 for buffers by the words of its image
-  pub by_words : (unfit : ℕ → Bool) → or_six c.answer (unfit (size c.shape)) ≡ refusal_of file_kind least_side file (unfit (file_words file))
-  unfolding or_six
-  by_words unfit =
-      go (eqb c.answer 0) refl ∙ ap (λ (n : ℕ). or_six n (unfit (file_words file))) checks.answer
-      ∙ sym (refusal_six file_kind least_side file (unfit (file_words file)))
-    where
-      go : (t : Bool) → eqb c.answer 0 ≡ t
-          → cond t (cond (unfit (size c.shape)) 6 0) c.answer ≡ cond t (cond (unfit (file_words file)) 6 0) c.answer
-      go true is = ap (λ (s : Shape). cond (unfit (size s)) 6 0) (checked_shape (eqb-true _ _ is))
-      go false is = refl
+-- with no number
+pub file_accepted_by : {file : List ℕ} (c : Result Shape Refusal) → Checks file c → IfOk c (λ s. FileAccepted s file)
+file_accepted_by {file} (Ok shape) checks =
+    subst⁻¹ (λ (s : Shape). FileAccepted s file) checks.shape (file_accepted least_side (omega arith) file_kind file false (sym checks.answer))
+file_accepted_by (Err refusal) checks = tt
 
-  pub unpack_refusal_by : (words : ℕ) {r : ℕ} → r ≡ or_six c.answer (misfit words (size c.shape)) → r ≡ unpack_refusal file words
-  unpack_refusal_by words e = e ∙ by_words (misfit words)
+module _ {file : List ℕ} {c : Result Shape Refusal} (checks : Checks file c) where
+  pub unpack_refusal_by : (words : ℕ) {r : ℕ} → r ≡ or_lent c (λ s. misfit words (size s)) → r ≡ unpack_refusal file words
+  unpack_refusal_by words e = e ∙ by_words c checks (misfit words)
 
   pub file_refusal_by : (words marks records : ℕ) {r : ℕ}
-      → r ≡ or_six c.answer (misfit words (size c.shape) || no_room (size c.shape) marks records)
+      → r ≡ or_lent c (λ s. misfit words (size s) || no_room (size s) marks records)
       → r ≡ file_refusal file words marks records
-  file_refusal_by words marks records e = e ∙ by_words λ n. misfit words n || no_room n marks records
+  file_refusal_by words marks records e = e ∙ by_words c checks λ n. misfit words n || no_room n marks records
 
-  -- with no number
-  pub file_accepted_by : c.answer ≡ 0 → FileAccepted c.shape file
-  file_accepted_by zero =
-      subst⁻¹ (λ (s : Shape). FileAccepted s file) (checked_shape zero)
-      (file_accepted least_side (omega arith) file_kind file false (sym checks.answer ∙ zero))
+  module _ {shape : Shape} (ok : c ≡ Ok shape) where
+    pub checked_shape : shape ≡ file_shape file
+    checked_shape = (subst (Checks file) ok checks).shape
 
-  module _ (words marks records : List ℕ) {r : ℕ}
-      (is : r ≡ or_six c.answer (misfit (length words) (size c.shape) || no_room (size c.shape) (length marks) (length records))) (none : r ≡ 0) where
-    pub ready_shape : c.shape ≡ file_shape file
-    ready_shape = checked_shape (six_past _ _ (sym is ∙ none)).0
+    pub checked_accepted : FileAccepted shape file
+    checked_accepted = file_accepted_by (Ok shape) (subst (Checks file) ok checks)
 
-    pub file_ready_by : FileReady c.shape file words marks records
-    file_ready_by =
-        subst⁻¹ (λ (s : Shape). FileReady s file words marks records) ready_shape
-        (file_ready file words marks records (sym (file_refusal_by (length words) (length marks) (length records) is) ∙ none))
+    module _ (words marks records : List ℕ) {r : ℕ}
+        (is : r ≡ or_lent c (λ s. misfit (length words) (size s) || no_room (size s) (length marks) (length records))) (none : r ≡ 0) where
+      pub file_ready_by : FileReady shape file words marks records
+      file_ready_by =
+          subst⁻¹ (λ (s : Shape). FileReady s file words marks records) checked_shape
+          (file_ready file words marks records (sym (file_refusal_by (length words) (length marks) (length records) is) ∙ none))

@@ -1,176 +1,133 @@
-// Crop files and images in words: the number that refuses one, and a file unpacked into words.
+// Crop files and images in words: why one is refused, and a file unpacked into words.
 #![tactic(auto)]
 
-ghost use Rattle.std.specs.Prelude.{false, cond, ◌||◌, ◌≡◌, ◌≤◌, ◌<◌, length};
+ghost use Rattle.std.specs.Prelude.{false, cond, IfOk, MatchOption, ◌||◌, ◌≡◌, ◌≤◌, ◌<◌, length};
 ghost use Rattle.bit_matrix.specs.Shape.{row_words, shape_of, size};
 ghost use Rattle.crop_sizes.specs.Sizes.{misfit};
+ghost use Rattle.crop_sizes.specs.Refusals.{answer_of};
 ghost use Rattle.crop.specs.Crop.{header, no_room, refusal, words_refusal_of, words_refusal, Unpacks};
-ghost use Rattle.crop.specs.CropClauses.{Checks, or_six};
+ghost use Rattle.crop.specs.CropClauses.{HeadedBy, Checks, or_lent};
 
 use bit_matrix::Shape;
+use crop_sizes::Refusal;
 
 // The kind of a crop file.
 const KIND: u32 = 1;
 
-// What the check of a file gives: its number, and its image's shape, or that of no image where the file is refused.
-#[derive(Clone, Copy)]
-pub struct Checked {
-    pub answer: u32,
-    pub shape: Shape,
+// The first four bytes as one number, most significant bit first, or none of a shorter file.
+fn header(file: &[u8]) -> Option<u32>
+    ensures { MatchOption result (length file.now < 4) (λ head. (4 ≤ length file.now) × (head ≡ header file.now)) }
+{
+    let bytes = file.first_chunk()?;
+    Some(u32::from_be_bytes(*bytes))
 }
 
-// A byte as a wider number.
-fn wide(byte: u8) -> u32
-    ensures { (result ≡ byte) × (result < 256) }
+// What is wrong with a file's header, or the shape of its image.
+fn header_shape(file: &[u8]) -> Result<Shape, Refusal>
+    ensures { HeadedBy file.now result }
 {
-    byte as u32
-}
-
-// The four bytes of the header as one number, most significant bit first.
-fn header(file: &[u8]) -> u32
-    requires { 4 ≤ length file.now }
-    ensures { result ≡ header file.now }
-{
-    ((wide(file[0]) * 256 + wide(file[1])) * 256 + wide(file[2])) * 256 + wide(file[3])
-}
-
-// A file that is refused with a number.
-fn refused(answer: u32) -> Checked
-    ensures { result ≡ record { answer = answer; shape = shape_of 0 0 } }
-{
-    Checked {
-        answer,
-        shape: crop_sizes::shape_of(0, 0),
+    let head = header(file).ok_or(Refusal::Header)?;
+    if head / 268435456 != KIND || head % 16 != 0 {
+        return Err(Refusal::Header);
     }
+    Ok(crop_sizes::shape_of(head / 65536 % 4096, head / 16 % 4096))
 }
 
-// The first of the numbers 1 to 5 that names what is wrong with a file, or 0 and the shape of its image.
-pub fn check_file(file: &[u8]) -> Checked
+// The first of the reasons that is wrong with a file by itself, or the shape of its image.
+pub fn check_file(file: &[u8]) -> Result<Shape, Refusal>
     ensures { Checks file.now result }
 {
-    if file.len() < 4 {
-        return refused(1);
-    }
-    let head = header(file);
-    if head / 268435456 != KIND {
-        return refused(1);
-    }
-    if head % 16 != 0 {
-        return refused(1);
-    }
-    let shape = crop_sizes::shape_of(head / 65536 % 4096, head / 16 % 4096);
-    let answer = crop_sizes::size_refusal(
-        shape,
-        crop_sizes::LEAST,
-        file.len(),
-        crop_sizes::file_length(shape),
-    );
-    if answer != 0 {
-        return refused(answer);
-    }
+    let shape = header_shape(file)?;
+    let needed = crop_sizes::file_length(shape);
+    crop_sizes::size_refusal(shape, crop_sizes::LEAST, file.len(), needed)?;
     if crop_padding::file_padded(file, shape) {
-        return refused(5);
+        return Err(Refusal::Padding);
     }
-    Checked { answer: 0, shape }
+    Ok(shape)
 }
 
-// The first of the numbers 1 to 5 that names what is wrong with a file, or 0.
-pub fn check(file: &[u8]) -> u32
-    ensures { result ≡ refusal file.now }
+// The first of the reasons that is wrong with a file by itself.
+pub fn check(file: &[u8]) -> Result<(), Refusal>
+    ensures { answer_of result ≡ refusal file.now }
 {
-    check_file(file).answer
+    check_file(file)?;
+    Ok(())
 }
 
-// 6 for marks that differ in length from an image's words, or a record buffer with no room for a record, else 0.
-fn search_room(needed: usize, marks_len: usize, records_len: usize) -> u32
-    ensures { result ≡ cond (no_room needed marks_len records_len) 6 0 }
+// Refuses marks that differ in length from an image's words, and a record buffer with no room for a record.
+fn search_room(needed: usize, marks_len: usize, records_len: usize) -> Result<(), Refusal>
+    ensures { answer_of result ≡ cond (no_room needed marks_len records_len) 6 0 }
 {
-    if marks_len != needed {
-        return 6;
+    if marks_len != needed || records_len < 40 {
+        return Err(Refusal::Lent);
     }
-    if records_len < 40 {
-        return 6;
-    }
-    0
+    Ok(())
 }
 
-// The first of the numbers 2 to 5 that names what is wrong with an image in words, or 0.
-pub fn check_words(words: &[u64], width: u32, height: u32) -> u32
-    ensures { result ≡ words_refusal_of words.now width height false }
+// The first of the reasons that is wrong with an image in words, but for the header, or its shape.
+pub fn check_words(words: &[u64], width: u32, height: u32) -> Result<Shape, Refusal>
+    ensures answer { answer_of result ≡ words_refusal_of words.now width height false }
+    ensures shape { IfOk result (λ shape. shape ≡ shape_of width height) }
 {
     let shape = crop_sizes::shape_of(width, height);
-    let answer = crop_sizes::size_refusal(
-        shape,
-        crop_sizes::LEAST,
-        words.len(),
-        crop_sizes::image_words(shape),
-    );
-    if answer != 0 {
-        return answer;
-    }
+    let needed = crop_sizes::image_words(shape);
+    crop_sizes::size_refusal(shape, crop_sizes::LEAST, words.len(), needed)?;
     if crop_padding::words_padded(words, shape) {
-        return 5;
+        return Err(Refusal::Padding);
     }
-    0
+    Ok(shape)
 }
 
-// The same with 6 for the lengths of the marks and of the record buffer.
+// The same with the lengths of the marks and of the record buffer.
 pub fn words_refusal(
     words: &[u64],
     width: u32,
     height: u32,
     marks_len: usize,
     records_len: usize,
-) -> u32
-    ensures { result ≡ words_refusal words.now width height marks_len records_len }
+) -> Result<Shape, Refusal>
+    ensures answer { answer_of result ≡ words_refusal words.now width height marks_len records_len }
+    ensures shape { IfOk result (λ shape. shape ≡ shape_of width height) }
 {
-    let answer = check_words(words, width, height);
-    if answer != 0 {
-        return answer;
-    }
-    let needed = crop_sizes::image_words(crop_sizes::shape_of(width, height));
-    search_room(needed, marks_len, records_len)
+    let shape = check_words(words, width, height)?;
+    search_room(crop_sizes::image_words(shape), marks_len, records_len)?;
+    Ok(shape)
 }
 
-// The number of a file that was checked, or 6 where the words to unpack into differ in length from its image's, or 0.
-pub fn unpack_refusal(checked: Checked, words_len: usize) -> u32
-    requires { checked.shape.row_words ≡ row_words checked.shape.width }
-    ensures { result ≡ or_six checked.answer (misfit words_len (size checked.shape)) }
+// What is wrong with a file that was checked, with the length of the words to unpack into, or its shape.
+pub fn unpack_refusal(checked: Result<Shape, Refusal>, words_len: usize) -> Result<Shape, Refusal>
+    requires { IfOk checked (λ shape. shape.row_words ≡ row_words shape.width) }
+    ensures answer { answer_of result ≡ or_lent checked (λ shape. misfit words_len (size shape)) }
+    ensures shape { IfOk result (λ shape. checked ≡ Ok shape) }
 {
-    if checked.answer != 0 {
-        return checked.answer;
+    let shape = checked?;
+    if words_len != crop_sizes::image_words(shape) {
+        return Err(Refusal::Lent);
     }
-    if words_len != crop_sizes::image_words(checked.shape) {
-        return 6;
-    }
-    0
+    Ok(shape)
 }
 
-// The same with 6 for the lengths of the marks and of the record buffer.
-pub fn file_refusal(checked: Checked, words_len: usize, marks_len: usize, records_len: usize) -> u32
-    requires { checked.shape.row_words ≡ row_words checked.shape.width }
-    ensures { result ≡ or_six checked.answer (misfit words_len (size checked.shape) || no_room (size checked.shape) marks_len records_len) }
+// The same with the lengths of the marks and of the record buffer.
+pub fn file_refusal(
+    checked: Result<Shape, Refusal>,
+    words_len: usize,
+    marks_len: usize,
+    records_len: usize,
+) -> Result<Shape, Refusal>
+    requires { IfOk checked (λ shape. shape.row_words ≡ row_words shape.width) }
+    ensures answer { answer_of result ≡ or_lent checked (λ shape. misfit words_len (size shape) || no_room (size shape) marks_len records_len) }
+    ensures shape { IfOk result (λ shape. checked ≡ Ok shape) }
 {
-    let answer = unpack_refusal(checked, words_len);
-    if answer != 0 {
-        return answer;
-    }
-    search_room(
-        crop_sizes::image_words(checked.shape),
-        marks_len,
-        records_len,
-    )
+    let shape = unpack_refusal(checked, words_len)?;
+    search_room(crop_sizes::image_words(shape), marks_len, records_len)?;
+    Ok(shape)
 }
 
-// The words of a file into a lent buffer, which is written only when the answer is 0.
-pub fn unpack(file: &[u8], words: &mut [u64]) -> u32
-    ensures { Unpacks file.now words.old result words.new }
+// The words of a file into a lent buffer, which is written only when nothing refuses.
+pub fn unpack(file: &[u8], words: &mut [u64]) -> Result<(), Refusal>
+    ensures { Unpacks file.now words.old (answer_of result) words.new }
 {
-    let checked = check_file(file);
-    let answer = unpack_refusal(checked, words.len());
-    if answer != 0 {
-        return answer;
-    }
-    crop_rows::unpack_rows(file, checked.shape, words);
-    0
+    let shape = unpack_refusal(check_file(file), words.len())?;
+    crop_rows::unpack_rows(file, shape, words);
+    Ok(())
 }

@@ -1,52 +1,36 @@
 -- A row's padding by the number that the code tests. Assumes nothing.
 use Prim.Native.Nat.{ℕ, zero, suc, ◌+◌, ◌*◌, ◌-◌, ◌/◌, ◌%◌, ◌^◌, ◌≤◌, ◌<◌}
 use native.Mathlib.Nat.{mod-eq_of_lt}
-use native.Mathlib.Numerals.{add-one}
 use native.Mathlib.Omega.{arith}
 use mathlib.Core.Bool.{Bool, true, false}
 use mathlib.Core.List.{List}
 use mathlib.Core.Path.{◌≡◌, refl, sym, ap₂, ap, subst, ◌∙◌}
 use lib.ListN.{get_or}
 use lib.Pow.{shr_lt}
+use Rattle.std.specs.List.{list_any, range_with_len}
+use Rattle.std.proofs.Common.{◌||◌, below_more}
 use Rattle.reads.specs.Bits.{test_bit, bit_at}
 use Rattle.bit_matrix.specs.Shape.{row_words}
 use Rattle.crop_sizes.specs.Sizes.{row_bytes}
-use Rattle.crop_padding.specs.Padding.{file_bit, word_bit, row_padded}
+use Rattle.crop_padding.specs.Padding.{file_bit, word_bit, row_padded, file_row, words_row}
 use Rattle.crop_padding.specs.Below.{any_below, number}
 use Rattle.crop_padding.specs.AnyLaws.{any_found, none_holds, none_below}
 use Rattle.crop_padding.specs.NumberLaws.{number_low, low_clear, test_shr}
 
--- ---- a loop over the rows: none of those before row y is padded
+-- ---- what `any` answers over the numbers below n
 
-pub record Passed (padded : ℕ → Bool) (rows y : ℕ) : Type 0 where
-  pub most : y ≤ rows
-  pub none : any_below padded y ≡ false
-
--- a loop over the numbers: at its start, and after one more of which p does not hold
 module _ (p : ℕ → Bool) where
-  any_none : any_below p 0 ≡ false
-  unfolding any_below
-  any_none = refl
+  range_any : (a n m : ℕ) → a + n ≡ m → ((k : ℕ) → k < a → p k ≡ false) → list_any p (range_with_len a n) ≡ any_below p m
+  range_any a zero m e none = sym (none_below p m λ k h. none k (omega arith))
+  range_any a (suc n) m e none = go (p a) refl λ here. range_any (a + 1) n m (omega arith) (below_more _ _ none here)
+    where
+      go : (b : Bool) → p a ≡ b → (p a ≡ false → list_any p (range_with_len (a + 1) n) ≡ any_below p m)
+          → (b || list_any p (range_with_len (a + 1) n)) ≡ any_below p m
+      go true here rest = sym (any_found p m (omega arith) here)
+      go false here rest = rest here
 
-  any_more : {n : ℕ} → p n ≡ false → any_below p n ≡ false → any_below p (n + 1) ≡ false
-  unfolding any_below
-  any_more {n} here before = rw (add-one, here) before
-
-module _ (padded : ℕ → Bool) {rows : ℕ} where
-  pub passed_none : Passed padded rows 0
-  passed_none = record { most = omega arith; none = any_none padded }
-
-  module _ {y : ℕ} where
-    pub passed_more : Passed padded rows y → y < rows → padded y ≡ false → Passed padded rows (y + 1)
-    passed_more before here clean = record { most = omega arith; none = any_more padded clean before.none }
-
-    pub passed_found : y < rows → padded y ≡ true → true ≡ any_below padded rows
-    passed_found here set = sym (any_found padded rows here set)
-
-    pub passed_all : Passed padded rows y → rows ≤ y → false ≡ any_below padded rows
-    passed_all before past =
-        let all : y ≡ rows = omega (arith, before.most) in
-        sym (ap (any_below padded) (sym all) ∙ before.none)
+  pub any_is : (n : ℕ) → list_any p (range_with_len 0 n) ≡ any_below p n
+  any_is n = range_any 0 n n (omega arith) λ k h. absurd (omega arith)
 
 -- ---- a row
 
@@ -83,9 +67,6 @@ module _ (bit : ℕ → ℕ → Bool) (w end y m : ℕ) (place : ℕ → ℕ)
 
 -- ---- a row of a file, by its last byte
 
-abbrev pub file_row : List ℕ → ℕ → ℕ → Bool
-file_row file w = row_padded (file_bit file w) w (8 * row_bytes w)
-
 abbrev pub last_byte : ℕ → ℕ → ℕ
 last_byte w y = 4 + (y * row_bytes w + (row_bytes w - 1))
 
@@ -106,9 +87,6 @@ module _ (file : List ℕ) (w y : ℕ) (some : 1 ≤ w) where
   file_row_set = set (file_bit file w) w (8 * row_bytes w) y _ (λ k. spare - 1 - k) (λ k h. omega arith) (λ k h. omega arith) byte_bit_lem
 
 -- ---- a row of words, by its last word
-
-abbrev pub words_row : List ℕ → ℕ → ℕ → Bool
-words_row words w = row_padded (word_bit words w) w (64 * row_words w)
 
 abbrev pub last_word : ℕ → ℕ → ℕ
 last_word w y = y * row_words w + (row_words w - 1)

@@ -18,8 +18,14 @@ word_bit words w c y = bit_at words ((y * row_words w + c / 64) * 64 + c % 64)
 unfoldable pub row_padded : (ℕ → ℕ → Bool) → ℕ → ℕ → ℕ → Bool
 row_padded bit w end y = any_below (λ k. bit (w + k) y) (end - w)
 
+abbrev pub file_row : List ℕ → ℕ → ℕ → Bool
+file_row file w = row_padded (file_bit file w) w (8 * row_bytes w)
+
 abbrev pub file_padded : List ℕ → ℕ → ℕ → Bool
-file_padded file w h = any_below (row_padded (file_bit file w) w (8 * row_bytes w)) h
+file_padded file w h = any_below (file_row file w) h
+
+abbrev pub words_row : List ℕ → ℕ → ℕ → Bool
+words_row words w = row_padded (word_bit words w) w (64 * row_words w)
 
 abbrev pub words_padded : List ℕ → ℕ → ℕ → Bool
-words_padded words w h = any_below (row_padded (word_bit words w) w (64 * row_words w)) h
+words_padded words w h = any_below (words_row words w) h

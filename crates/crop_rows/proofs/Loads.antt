@@ -1,10 +1,9 @@
 -- Bytes put together as one word. Assumes nothing.
-use Prim.Native.Nat.{ℕ, ◌+◌, ◌*◌, ◌/◌, ◌%◌, ◌^◌, ◌≤◌, ◌<◌}
-use native.Mathlib.Omega.{arith}
-use mathlib.Core.List.{List}
-use mathlib.Core.Path.{◌≡◌, sym, ap, ap₂, ◌∙◌}
-use lib.Bits.{bit_or, or_shifted_r}
-use lib.ListN.{get_or}
+use Rattle.std.specs.Prelude.{ℕ, zero, suc, ◌+◌, ◌*◌, ◌/◌, ◌%◌, ◌^◌, ◌≤◌, ◌<◌, List, ◌≡◌, refl, bit_or, get_or}
+use Rattle.std.specs.Int.{sum_through, byte_worth}
+use Rattle.std.proofs.Common.{arith, sym, ap, ap₂, ◌∙◌, add_comm, pow-add}
+use Rattle.std.proofs.Math.Nat.{pow-suc}
+use lib.Bits.{or_shifted_r}
 use lib.Pow.{shl_exact}
 use Rattle.reads.specs.Bits.{test_bit}
 use Rattle.crop_padding.specs.Below.{number}
@@ -40,8 +39,46 @@ module _ (file : List ℕ) (from : ℕ) where
       ∙ ap₂ (λ (a b : ℕ). a * 2 ^ (8 * c) + b) (high_is ∙ bits) low_is ∙ sym (number_add (byte_bit file from) (8 * c) m)
 
 -- one byte more
-pub byte_more : (file : List ℕ) (from k : ℕ) {word : ℕ} → k < 8 → get_or file (from + k) 0 < 2 ^ 8 → word ≡ number (byte_bit file from) (8 * k)
-    → bit_or word (get_or file (from + k) 0 * 2 ^ (8 * k) % 2 ^ 64) ≡ number (byte_bit file from) (8 * (k + 1))
-byte_more file from k h small so_far =
+pub byte_more : (file : List ℕ) (k : ℕ) {word : ℕ} → k < 8 → get_or file k 0 < 2 ^ 8 → word ≡ number (byte_bit file 0) (8 * k)
+    → bit_or word (get_or file k 0 * 2 ^ (8 * k) % 2 ^ 64) ≡ number (byte_bit file 0) (8 * (k + 1))
+byte_more file k h small so_far =
     let more : 8 * k + 8 ≡ 8 * (k + 1) = omega arith in
-    joined file from k 8 (omega arith) so_far (byte_is file (from + k) small) ∙ ap (number (byte_bit file from)) more
+    let from : 0 + k ≡ k = omega arith in
+    joined file 0 k 8 (omega arith) so_far (ap (λ (n : ℕ). get_or file n 0) (sym from) ∙ byte_is file (0 + k) (rw from small))
+    ∙ ap (number (byte_bit file 0)) more
+
+-- ---- bytes that are those of a file from some place on
+
+bytes_power : (n : ℕ) → 256 ^ n ≡ 2 ^ (8 * n)
+bytes_power zero = refl
+bytes_power (suc n) =
+    let more : 8 * suc n ≡ 8 * n + 8 = omega arith in
+    rw (pow-suc, more, pow-add 2 (8 * n) 8, bytes_power n) refl
+
+module _ (file : List ℕ) (small : (i : ℕ) → get_or file i 0 < 2 ^ 8) (from : ℕ) (bytes : List ℕ) where
+  -- the bits of byte c
+  upper : (c : ℕ) → number (λ k. byte_bit file from (8 * c + k)) 8 ≡ get_or file (from + c) 0
+  upper c =
+      sym (byte_is file (from + c) (small (from + c))
+      ∙ number_same (byte_bit file (from + c)) (λ k. byte_bit file from (8 * c + k)) 8 λ k h.
+      let byte : from + c + k / 8 ≡ from + (8 * c + k) / 8 = omega arith in
+      let place : k % 8 ≡ (8 * c + k) % 8 = omega arith in
+      ap₂ (λ (q r : ℕ). test_bit (get_or file q 0) r) byte place)
+
+  -- the sum of the bytes, each by its worth, is their number
+  pub worth : (k : ℕ) → ((i : ℕ) → i < suc k → get_or bytes i 0 ≡ get_or file (from + i) 0)
+      → sum_through (λ i. byte_worth i (get_or bytes i 0)) k ≡ number (byte_bit file from) (8 * suc k)
+  worth zero same =
+      let start : from + 0 ≡ from = omega arith in
+      same 0 (omega arith) ∙ ap (λ (n : ℕ). get_or file n 0) start ∙ byte_is file from (small from)
+  worth (suc k) same =
+      let more : 8 * suc k + 8 ≡ 8 * suc (suc k) = omega arith in
+      rw (worth k λ i h. same i (omega arith), same (suc k) (omega arith), bytes_power (suc k), ← upper (suc k))
+      (sym (ap (number (byte_bit file from)) (sym more) ∙ number_add (byte_bit file from) (8 * suc k) 8 ∙ add_comm _ _))
+
+  -- the bits of the bytes are those of the file
+  pub bits : (n : ℕ) → ((i : ℕ) → i < n → get_or bytes i 0 ≡ get_or file (from + i) 0) → number (byte_bit bytes 0) (8 * n) ≡ number (byte_bit file from) (8 * n)
+  bits n same =
+      number_same (byte_bit bytes 0) (byte_bit file from) (8 * n) λ k h.
+      let byte : 0 + k / 8 ≡ k / 8 = omega arith in
+      ap (λ (b : ℕ). test_bit b (k % 8)) (ap (λ (i : ℕ). get_or bytes i 0) byte ∙ same (k / 8) (omega arith))

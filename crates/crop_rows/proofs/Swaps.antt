@@ -6,12 +6,13 @@ use native.Mathlib.Omega.{arith}
 use mathlib.Core.Bool.{Bool, true, false, not, cond, ◌||◌, ◌&&◌}
 use mathlib.Core.Path.{◌≡◌, refl, sym, ap, ap₂, ◌∙◌}
 use borrow.Author.Tests.{lt-ltb, le-ltb}
-use lib.Bits.{bit_and, bit_or, and_shr, and_mod}
+use lib.Bits.{bit_and, and_shr, and_mod}
 use lib.Dec.{eqb, ltb}
 use lib.Pow.{field, mod-mod-pow, shl-shr, shr-shr}
 use Rattle.reads.specs.Bits.{test_bit}
 use Rattle.reads.proofs.BitsLaws.{test_or}
 use Rattle.crop_padding.specs.NumberLaws.{low_clear, test_shr}
+use Rattle.crop_rows.specs.Bytes.{swap}
 
 -- ---- a bit of the code's operations
 
@@ -50,10 +51,6 @@ test_shl_low : (n d k : ℕ) → k < d → k < 64 → test_bit (n * 2 ^ d % 2 ^ 
 test_shl_low n d k l h = test_kept (n * 2 ^ d) k h ∙ low_clear (n * 2 ^ d) d (mul-mod_left n (2 ^ d)) l
 
 -- ---- the swap
-
--- as the code does it
-abbrev pub swap : ℕ → ℕ → ℕ → ℕ
-swap x d m = bit_or (bit_and (x / 2 ^ d) m) (bit_and x m * 2 ^ d % 2 ^ 64)
 
 -- the place from which bit k comes
 abbrev pub swap_origin : ℕ → ℕ → ℕ → ℕ

@@ -1,3 +1,4 @@
 pub mod Sizes
 pub mod SizesLaws
 pub mod ChainLaws
+pub mod Refusals

@@ -1,14 +1,11 @@
 -- `crop::check_words` meets its contract: one lemma for each return, by the shape that was worked out.
-use Prim.Native.Nat.{ℕ}
-use native.Mathlib.Omega.{arith}
-use mathlib.Core.Bool.{Bool, true, false}
-use mathlib.Core.List.{List}
-use mathlib.Core.Path.{◌≡◌, refl, sym, ap, ap₂, ◌∙◌}
-use lib.ListN.{length}
+use Rattle.std.specs.Prelude.{ℕ, Bool, true, false, List, ◌≡◌, refl, length}
+use Rattle.std.proofs.Common.{arith, sym, ap, ap₂, ◌∙◌}
 use Rattle.bit_matrix.specs.declared.Shape.{Shape}
 use Rattle.bit_matrix.specs.Shape.{shape_of, size}
 use Rattle.bit_matrix.specs.ShapeClauses.{Limits}
 use Rattle.crop_sizes.specs.ChainLaws.{chain_here, chain_next}
+use Rattle.crop_sizes.specs.Refusals.{number_some, carried}
 use Rattle.crop_sizes.specs.Sizes.{least_side, image_refusal}
 use Rattle.crop_sizes.specs.SizesLaws.{rows_of, image_within, size_kept, size_next}
 use Rattle.crop_padding.specs.Padding.{words_padded}
@@ -18,17 +15,13 @@ use Rattle.crop.proofs.check_words.Goals as goal
 module _ (words : List ℕ) (w h : ℕ) {shape : Shape} (is : shape ≡ shape_of w h) {needed answer : ℕ} (needed_is : needed ≡ size shape)
     (sized : answer ≡ image_refusal least_side shape (length words) needed false false) where
   module _ (zero : answer ≡ 0) where
-    limited : Limits shape
-    limited = (image_within least_side (omega arith) shape (length words) needed _ _ (rows_of is) (sym sized ∙ zero)).0
-
-    fitting : length words ≡ size shape
-    fitting = (image_within least_side (omega arith) shape (length words) needed _ _ (rows_of is) (sym sized ∙ zero)).1 ∙ needed_is
-
-  long : needed ≡ size (shape_of w h)
-  long = needed_is ∙ ap size is
+    within : Limits shape × (length words ≡ size shape)
+    within =
+        let image = image_within least_side (omega arith) shape (length words) needed _ _ (rows_of is) (sym sized ∙ zero) in
+        (image.0, image.1 ∙ needed_is)
 
   size_is : answer ≡ image_refusal least_side (shape_of w h) (length words) (size (shape_of w h)) false false
-  size_is = sized ∙ ap₂ (λ (s : Shape) (n : ℕ). image_refusal least_side s (length words) n false false) is long
+  size_is = sized ∙ ap₂ (λ (s : Shape) (n : ℕ). image_refusal least_side s (length words) n false false) is (needed_is ∙ ap size is)
 
   bad_size : (answer ≡ 0 → ⊥) → answer ≡ words_refusal_of words w h false
   unfolding words_refusal_of
@@ -46,20 +39,22 @@ module _ (words : List ℕ) (w h : ℕ) {shape : Shape} (is : shape ≡ shape_of
     unfolding words_refusal_of
     accepted clean = size_next _ _ _ _ _ _ size_is zero (chain_next 5 _ (tested_is ∙ clean) refl)
 
-pub image_words-requires : goal.image_words-requires
-image_words-requires c = search rows_of
-
-pub size_refusal-answer-requires : goal.size_refusal-answer-requires
-size_refusal-answer-requires c = search rows_of
-
-pub returns-then-answer-ne0 : goal.returns-then-answer-ne0
-returns-then-answer-ne0 c = search bad_size
+pub returns-in_err-size_refusal-clause-answer : goal.returns-in_err-size_refusal-clause-answer
+returns-in_err-size_refusal-clause-answer c =
+    carried c.from_residual.result c.in_err-size_refusal.field-0.0 c.from_residual.ensures.1
+    ∙ bad_size c.args.words.now c.args.width c.args.height c.shape_of-shape.ensures c.image_words-needed.ensures c.in_err-size_refusal.ensures
+    (number_some c.in_err-size_refusal.field-0.0)
 
 pub words_padded-requires : goal.words_padded-requires
-words_padded-requires c = search (limited, fitting)
+words_padded-requires c =
+    within c.args.words.now c.args.width c.args.height c.shape_of-shape.ensures c.image_words-needed.ensures c.in_ok-size_refusal.ensures refl
 
-pub returns-then-words_padded : goal.returns-then-words_padded
-returns-then-words_padded c = search bad_padding
+pub returns-then-words_padded-clause-answer : goal.returns-then-words_padded-clause-answer
+returns-then-words_padded-clause-answer c =
+    bad_padding c.args.words.now c.args.width c.args.height c.shape_of-shape.ensures c.image_words-needed.ensures c.in_ok-size_refusal.ensures refl
+    c.words_padded.ensures c.if-words_padded.true
 
-pub returns : goal.returns
-returns c = search accepted
+pub returns-clause-answer : goal.returns-clause-answer
+returns-clause-answer c =
+    accepted c.args.words.now c.args.width c.args.height c.shape_of-shape.ensures c.image_words-needed.ensures c.in_ok-size_refusal.ensures refl
+    c.words_padded.ensures c.if-words_padded.false

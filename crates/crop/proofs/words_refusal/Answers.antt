@@ -1,11 +1,9 @@
--- `crop::words_refusal` meets its contract: the numbers of the image first, and then the room for a search.
-use Prim.Native.Nat.{ℕ}
-use mathlib.Core.Bool.{false, cond}
-use mathlib.Core.List.{List}
-use mathlib.Core.Path.{◌≡◌, sym, ap, ◌∙◌}
+-- `crop::words_refusal` meets its contract: the reasons of the image first, and then the room for a search.
+use Rattle.std.specs.Prelude.{ℕ, false, cond, List, ◌≡◌, refl}
+use Rattle.std.proofs.Common.{sym, ap, ◌∙◌}
 use Rattle.bit_matrix.specs.declared.Shape.{Shape}
 use Rattle.bit_matrix.specs.Shape.{shape_of, size}
-use Rattle.crop_sizes.specs.SizesLaws.{rows_of}
+use Rattle.crop_sizes.specs.Refusals.{number_some, carried}
 use Rattle.crop.specs.Crop.{no_room, words_refusal_of, words_refusal}
 use Rattle.crop.specs.CropClauses.{or_six}
 use Rattle.crop.specs.CropLaws.{six_kept, six_next, words_six}
@@ -22,11 +20,19 @@ module _ (words : List ℕ) (w h marks records : ℕ) {answer : ℕ} (checked : 
       → r ≡ words_refusal words w h marks records
   onward zero is needed_is room = six_next _ zero (room ∙ ap (λ (n : ℕ). cond (no_room n marks records) 6 0) (needed_is ∙ ap size is)) ∙ six_is
 
-pub returns-then-answer-ne0 : goal.returns-then-answer-ne0
-returns-then-answer-ne0 c = search bad_image
+pub returns-in_err-shape-clause-answer : goal.returns-in_err-shape-clause-answer
+returns-in_err-shape-clause-answer c =
+    carried c.from_residual.result c.in_err-shape.field-0.0 c.from_residual.ensures.1
+    ∙ bad_image c.args.words.now c.args.width c.args.height c.args.marks_len c.args.records_len c.in_err-shape.ensures.answer
+    (number_some c.in_err-shape.field-0.0)
 
-pub image_words-needed-requires : goal.image_words-needed-requires
-image_words-needed-requires c = search rows_of
+pub returns-in_err-search_room-clause-answer : goal.returns-in_err-search_room-clause-answer
+returns-in_err-search_room-clause-answer c =
+    carried c.from_residual-in_err-search_room.result c.in_err-search_room.field-0.0 c.from_residual-in_err-search_room.ensures.1
+    ∙ onward c.args.words.now c.args.width c.args.height c.args.marks_len c.args.records_len c.in_ok-shape.ensures.answer refl
+    c.in_ok-shape.ensures.shape c.image_words.ensures c.in_err-search_room.ensures
 
-pub returns : goal.returns
-returns c = search onward
+pub returns-clause-answer : goal.returns-clause-answer
+returns-clause-answer c =
+    onward c.args.words.now c.args.width c.args.height c.args.marks_len c.args.records_len c.in_ok-shape.ensures.answer refl
+    c.in_ok-shape.ensures.shape c.image_words.ensures c.in_ok-search_room.ensures

@@ -11,8 +11,8 @@ use Rattle.reads.specs.Bits.{test_bit}
 use Rattle.crop_padding.specs.Below.{any_below, number}
 use Rattle.crop_padding.specs.AnyLaws.{none_holds}
 use Rattle.crop_padding.specs.NumberLaws.{number_same, number_bits}
-use Rattle.crop_rows.specs.Bytes.{mirrored}
-use Rattle.crop_rows.proofs.Swaps.{swap, swap_origin, unfit, test_swap}
+use Rattle.crop_rows.specs.Bytes.{mirrored, swap}
+use Rattle.crop_rows.proofs.Swaps.{swap_origin, unfit, test_swap}
 use Rattle.crop_rows.proofs.reverse.Goals as goal
 
 -- every other group of 4, 2 and 1 bits
@@ -82,4 +82,5 @@ module _ (word : ℕ) where
       ∙ number_same (test_bit reversed) (λ k. test_bit word (mirrored k)) 64 bit_is
 
 pub returns : goal.returns
-returns c = reversed_is c.args.word
+returns c =
+    c.swap.ensures ∙ ap (λ (n : ℕ). swap n 1 mask₁) (c.swap-pairs.ensures ∙ ap (λ (n : ℕ). swap n 2 mask₂) c.swap-halves.ensures) ∙ reversed_is c.args.word

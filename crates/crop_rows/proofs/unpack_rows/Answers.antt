@@ -1,14 +1,8 @@
 -- `crop_rows::unpack_rows` meets its contract.
-use Prim.Native.Nat.{ℕ, suc, ◌+◌, ◌*◌, ◌-◌, ◌/◌, ◌%◌, ◌≤◌, ◌<◌, min}
-use native.Mathlib.Nat.{mul-le-mul_right}
+use Rattle.std.specs.Prelude.{ℕ, suc, ◌+◌, ◌*◌, ◌-◌, ◌/◌, ◌%◌, ◌≤◌, ◌<◌, false, cond, List, ◌++◌, ◌≡◌, refl, min, ltb, length, get_or, set, drop}
+use Rattle.std.proofs.Common.{arith, sym, ap, ap₂, ◌∙◌, mul-le-mul_right, lt-ltb, le-ltb, length-set, mul_comm}
+use Rattle.std.proofs.Math.Arith.{digits_lt}
 use native.Mathlib.Decide.{dec_lt}
-use native.Mathlib.Omega.{arith}
-use mathlib.Core.Bool.{false, cond}
-use mathlib.Core.List.{List, ◌++◌}
-use mathlib.Core.Path.{◌≡◌, refl, sym, ap, ap₂, ◌∙◌}
-use borrow.Author.Tests.{lt-ltb, le-ltb}
-use lib.Dec.{ltb}
-use lib.ListN.{length, get_or, set, drop, length-set}
 use Rattle.reads.specs.Bits.{test_bit}
 use Rattle.crop_padding.specs.Below.{firsts, number}
 use Rattle.crop_padding.specs.AnyLaws.{none_holds}
@@ -23,7 +17,7 @@ use Rattle.crop_rows.specs.UnpackClauses.{FileAccepted}
 use Rattle.crop_rows.specs.Unpack.{pixel_of, word_of, unpacked}
 use Rattle.crop_rows.specs.UnpackLaws.{word_at}
 use Rattle.crop_rows.proofs.unpack_rows.Invariants.{Storing}
-use Rattle.crop_rows.proofs.unpack_rows.Goals.{In-loop-i, Start}
+use Rattle.crop_rows.proofs.unpack_rows.Goals.{In-loop-x, Start}
 use Rattle.crop_rows.proofs.unpack_rows.Goals as goal
 
 -- bit k of word x lies in the row's bytes before and after its byte is reversed
@@ -68,102 +62,69 @@ module _ (file : List ℕ) (w h : ℕ) (clean : file_padded file w h ≡ false) 
     word_is : number (λ k. test_bit loaded (mirrored k)) 64 ≡ word_of file w (y * row_words w + x)
     word_is = number_same (λ k. test_bit loaded (mirrored k)) (λ k. pixel_of file w (x * 64 + k) y) 64 reversed_bit ∙ sym (word_at file w h x y column)
 
-module _ {file : List ℕ} (words₀ : List ℕ) {shape : Shape} (ok : FileAccepted shape file) where
-  begins : Storing file words₀ shape.width shape.row_words words₀ 0 0 0
-  begins = record {
-    most = omega arith;
-    place = omega arith;
-    column = omega (arith, ok.limits);
-    stored = firsts_none (word_of file shape.width) words₀;
-    sized = refl;
-  }
+module _ {file : List ℕ} (words₀ : List ℕ) {shape : Shape} (ok : FileAccepted shape file) (fits : length words₀ ≡ size shape) where
+  begins : Storing file words₀ shape.width words₀ (0 * shape.row_words)
+  begins =
+      let none : 0 ≡ 0 * shape.row_words = omega arith in
+      record { stored = firsts_none (word_of file shape.width) words₀ ∙ ap (λ (n : ℕ). firsts (word_of file shape.width) n ++ drop n words₀) none; sized = refl }
 
-  module _ (fits : length words₀ ≡ size shape) {words : List ℕ} {x y i : ℕ}
-      (storing : Storing file words₀ shape.width shape.row_words words x y i) where
-    at_end : length words ≤ i → words ≡ unpacked file shape
-    at_end past =
-        let all : i ≡ size shape = omega (arith, storing.most, storing.sized) in
-        storing.stored ∙ firsts_all (word_of file shape.width) words₀ {n = i} (omega (arith, storing.sized)) ∙ ap (firsts (word_of file shape.width)) all
+  module _ {y : ℕ} (row : y < shape.height) where
+    -- the row lies in the file
+    row_inside : 4 + y * row_bytes shape.width + row_bytes shape.width ≤ length file
+    row_inside = omega (arith, ok.long, mul-le-mul_right {m = suc y} {n = shape.height} (row_bytes shape.width) row)
 
-    module _ (here : i < length words) where
-      -- the row is one of the image's, and lies in the file
-      row_below : y < shape.height
-      row_below = go (dec_lt y shape.height)
-        where
-          go : Dec (y < shape.height) → y < shape.height
-          go (yes l) = l
-          go (no l) =
-              absurd
-              (omega (arith, storing.place, storing.sized, mul-le-mul_right {m = shape.height} {n = y} shape.row_words (omega arith)))
-
-      row_inside : 4 + y * row_bytes shape.width + row_bytes shape.width ≤ length file
-      row_inside = omega (arith, ok.long, mul-le-mul_right {m = suc y} {n = shape.height} (row_bytes shape.width) row_below)
-
+    module _ {x : ℕ} (column : x < shape.row_words) where
       word_inside : 8 * x < row_bytes shape.width
-      word_inside = omega (arith, ok.limits.rows, storing.column)
+      word_inside = omega (arith, ok.limits.rows)
 
+      place_inside : y * shape.row_words + x < size shape
+      place_inside = omega (arith, digits_lt {r = x} {c = shape.row_words} row column)
+
+  module _ {words : List ℕ} where
+    moved : {i j : ℕ} → Storing file words₀ shape.width words i → i ≡ j → Storing file words₀ shape.width words j
+    moved storing e = record { stored = storing.stored ∙ ap (λ (n : ℕ). firsts (word_of file shape.width) n ++ drop n words₀) e; sized = storing.sized }
+
+    at_end : Storing file words₀ shape.width words (shape.height * shape.row_words) → words ≡ unpacked file shape
+    at_end storing =
+        let all : shape.height * shape.row_words ≡ size shape = mul_comm _ _ in
+        storing.stored ∙ firsts_all (word_of file shape.width) words₀ (omega (arith, fits, all)) ∙ ap (firsts (word_of file shape.width)) all
+
+    module _ {x y : ℕ} (row : y < shape.height) (column : x < shape.row_words) where
       -- one word more is stored
-      module _ {loaded word : ℕ}
-          (is : loaded ≡ number (byte_bit file (4 + y * row_bytes shape.width + 8 * x)) (8 * min 8 (row_bytes shape.width - 8 * x)))
-          (reversed : word ≡ number (λ k. test_bit loaded (mirrored k)) 64) where
-        more : set words i word ≡ firsts (word_of file shape.width) (i + 1) ++ drop (i + 1) words₀
-        more =
-            let rows : shape.row_words ≡ row_words shape.width = ok.limits.rows in
-            let column : x < row_words shape.width = omega (arith, storing.column) in
-            let place : y * row_words shape.width + x ≡ i = sym (storing.place ∙ ap (λ (n : ℕ). y * n + x) rows) in
-            ap (λ (d : List ℕ). set d i word) storing.stored
-            ∙ firsts_more (word_of file shape.width) words₀ i (omega (arith, storing.sized))
-            (reversed ∙ word_is file shape.width shape.height ok.clean x y column row_below is ∙ ap (word_of file shape.width) place)
+      more : Storing file words₀ shape.width words (y * shape.row_words + x) → {loaded word : ℕ}
+          → loaded ≡ number (byte_bit file (4 + y * row_bytes shape.width + 8 * x)) (8 * min 8 (row_bytes shape.width - 8 * x))
+          → word ≡ number (λ k. test_bit loaded (mirrored k)) 64
+          → Storing file words₀ shape.width (set words (y * shape.row_words + x) word) (y * shape.row_words + (x + 1))
+      more storing {loaded} {word} is reversed =
+          let rows : shape.row_words ≡ row_words shape.width = ok.limits.rows in
+          let place : y * row_words shape.width + x ≡ y * shape.row_words + x = ap (λ (n : ℕ). y * n + x) (sym rows) in
+          let next : y * shape.row_words + x + 1 ≡ y * shape.row_words + (x + 1) = omega arith in
+          record {
+            stored =
+                ap (λ (d : List ℕ). set d (y * shape.row_words + x) word) storing.stored
+                ∙ firsts_more (word_of file shape.width) words₀ (y * shape.row_words + x) (omega (arith, fits, place_inside row column))
+                (reversed ∙ word_is file shape.width shape.height ok.clean x y (omega (arith, rows)) row is ∙ ap (word_of file shape.width) place)
+                ∙ ap (λ (n : ℕ). firsts (word_of file shape.width) n ++ drop n words₀) next;
+            sized = simp length-set storing.sized;
+          }
 
-        same_row : (x + 1 ≡ shape.row_words → ⊥) → Storing file words₀ shape.width shape.row_words (set words i word) (x + 1) y (i + 1)
-        same_row other = record {
-          most = omega (arith, storing.sized);
-          place = omega (arith, storing.place);
-          column = omega (arith, storing.column);
-          stored = more;
-          sized = simp length-set storing.sized;
-        }
+pub loop-y-init : goal.loop-y-init
+loop-y-init c = search begins
 
-        next_row : x + 1 ≡ shape.row_words → Storing file words₀ shape.width shape.row_words (set words i word) 0 (y + 1) (i + 1)
-        next_row last = record {
-          most = omega (arith, storing.sized);
-          place = omega (arith, storing.place);
-          column = omega arith;
-          stored = more;
-          sized = simp length-set storing.sized;
-        }
+pub loop-x-init : goal.loop-x-init
+loop-x-init c = moved c.args.words.now c.requires.0 c.requires.1 c.loop-y.invariant (omega arith)
 
-inside_at : (c : In-loop-i)
-    → let y = c.loop-i.y in
-    (4 + y * row_bytes c.args.shape.width + row_bytes c.args.shape.width ≤ length c.args.file.now) × (y < c.args.shape.height)
-inside_at c = (search row_inside, search row_below)
+pub loop-x-preserved : goal.loop-x-preserved
+loop-x-preserved c = more c.args.words.now c.requires.0 c.requires.1 c.loop-y-test.true c.loop-x-test.true c.loop-x.invariant c.load.ensures c.reverse.ensures
 
-pub loop-i-init : goal.loop-i-init
-loop-i-init c = search begins
-
-pub overflow_mul-y : goal.overflow_mul-y
-overflow_mul-y c = omega (arith, inside_at c)
-
-pub overflow_add-y : goal.overflow_add-y
-overflow_add-y c = omega (arith, inside_at c)
-
-pub load-requires : goal.load-requires
-load-requires c = search (row_inside, word_inside)
-
-pub overflow_add-y-then-x-row : goal.overflow_add-y-then-x-row
-overflow_add-y-then-x-row c =
-    let below : c.loop-i.y < c.args.shape.height = search row_below in
-    omega (arith, c.requires.0)
-
-pub loop-i-preserved-then-x-row : goal.loop-i-preserved-then-x-row
-loop-i-preserved-then-x-row c =
-    next_row c.args.words.now c.requires.0 c.requires.1 c.loop-i.invariant c.loop-i-test.true
-    c.load.ensures c.reverse.ensures c.if-x-row.true
-
-pub loop-i-preserved : goal.loop-i-preserved
-loop-i-preserved c =
-    same_row c.args.words.now c.requires.0 c.requires.1 c.loop-i.invariant c.loop-i-test.true
-    c.load.ensures c.reverse.ensures c.if-x-row.false
+pub loop-y-preserved : goal.loop-y-preserved
+loop-y-preserved c =
+    let all : c.loop-x.x ≡ c.args.shape.row_words = omega arith in
+    moved c.args.words.now c.requires.0 c.requires.1 c.loop-x.invariant
+    (ap (λ (n : ℕ). c.loop-y.y * c.args.shape.row_words + n) all ∙ omega arith)
 
 pub returns : goal.returns
-returns c = search at_end
+returns c =
+    let all : c.loop-y.y ≡ c.args.shape.height = omega arith in
+    at_end c.args.words.now c.requires.0 c.requires.1
+    (moved c.args.words.now c.requires.0 c.requires.1 c.loop-y.invariant (ap (λ (n : ℕ). n * c.args.shape.row_words) all))
