@@ -1,10 +1,8 @@
 -- The pixels of an image, by its shape. Assumes nothing.
-use Rattle.std.specs.Prelude.{ℕ, ◌+◌, ◌*◌, ◌/◌, ◌%◌, Bool, false, cond, ltb, leb}
+use Rattle.std.specs.Prelude.{ℕ, ◌+◌, ◌*◌, ◌/◌, ◌%◌, Bool, false, cond, ltb, leb, Option, None, Some}
 use Rattle.reads.specs.Reads.{Reads, done, read, ◌>>=◌}
 use Rattle.bit_matrix.specs.declared.Shape.{Shape}
 use Rattle.bit_matrix.specs.Shape.{size}
-use Rattle.bit_matrix.specs.declared.Sample.{Sample}
-use Rattle.bit_matrix.specs.declared.Sample.TheVariants.{Outside, Inside}
 
 -- `get_offset`: the word that holds column x of row y
 abbrev pub offset : Shape → ℕ → ℕ → ℕ
@@ -20,17 +18,17 @@ out_of_range shape x y = leb (size shape) (offset shape x y)
 
 -- `try_get`: none outside the width or height, with nothing read. The source's other none, for an offset past the last word, no image reaches
 -- (`inside_stored`).
-unfoldable pub try_get : Shape → ℕ → ℕ → Reads Sample
+unfoldable pub try_get : Shape → ℕ → ℕ → Reads (Option Bool)
 try_get shape x y =
     cond (ltb x shape.width)
     (cond (ltb y shape.height)
     (do
       black ← pixel shape x y
-      done (Inside black))
-    (done Outside))
-    (done Outside)
+      done (Some black))
+    (done None))
+    (done None)
 
--- by cases on a sample
-abbrev pub if_sample : {B : Type 0} → B → (Bool → B) → Sample → B
-if_sample none some Outside = none
-if_sample none some (Inside black) = some black
+-- by cases on a sample: none outside, or the pixel's colour
+abbrev pub if_sample : {B : Type 0} → B → (Bool → B) → Option Bool → B
+if_sample none some None = none
+if_sample none some (Some black) = some black

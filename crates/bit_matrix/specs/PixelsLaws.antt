@@ -1,5 +1,5 @@
 -- What holds of pixels: their flat index, and two tests of the Rust that no image within the limits reaches. Assumes nothing.
-use Rattle.std.specs.Prelude.{ℕ, suc, ◌+◌, ◌*◌, ◌%◌, ◌≤◌, ◌<◌, ◌≡◌, false, List, ◌⊎◌, length}
+use Rattle.std.specs.Prelude.{ℕ, suc, ◌+◌, ◌*◌, ◌%◌, ◌≤◌, ◌<◌, ◌≡◌, false, List, None, ◌⊎◌, length}
 use Rattle.std.proofs.Math.Decide.{dec_lt}
 use Rattle.std.proofs.Math.Nat.{mul-le-mul}
 use Rattle.std.proofs.Common.{arith, inl, inr, lt-ltb, le-ltb}
@@ -12,7 +12,6 @@ use Rattle.bit_matrix.specs.declared.Shape.{Shape}
 use Rattle.bit_matrix.specs.Shape.{size}
 use Rattle.bit_matrix.specs.ShapeClauses.{Limits, Inside}
 use Rattle.bit_matrix.specs.Pixels.{offset, pixel, try_get}
-use Rattle.bit_matrix.specs.declared.Sample.TheVariants.{Outside}
 
 -- ---- one pixel's run
 
@@ -34,12 +33,12 @@ ran_pixel words marks shape x y stored sized = go (dec_lt (offset shape x y) (si
         (ran_else _ _ (le-ltb _ _ past) (ran_done _))
 
 -- outside the width or height
-pub ran_outside : {words marks : List ℕ} (shape : Shape) (x y : ℕ) → (shape.width ≤ x) ⊎ (shape.height ≤ y) → Ran (try_get shape x y) words marks Outside marks
+pub ran_outside : {words marks : List ℕ} (shape : Shape) (x y : ℕ) → (shape.width ≤ x) ⊎ (shape.height ≤ y) → Ran (try_get shape x y) words marks None marks
 unfolding try_get
 ran_outside shape x y (inl h) = ran_else _ _ (le-ltb x shape.width h) (ran_done _)
 ran_outside {words} {marks} shape x y (inr h) = go (dec_lt x shape.width)
   where
-    go : Dec (x < shape.width) → Ran (try_get shape x y) words marks Outside marks
+    go : Dec (x < shape.width) → Ran (try_get shape x y) words marks None marks
     go (yes l) = ran_then _ _ (lt-ltb x shape.width l) (ran_else _ _ (le-ltb y shape.height h) (ran_done _))
     go (no l) = ran_else _ _ (le-ltb x shape.width (omega arith)) (ran_done _)
 

@@ -16,13 +16,6 @@ pub struct Shape {
     pub height: u32,
 }
 
-// What `try_get` and `try_get_area` answer: outside the image, or inside, true for black.
-#[derive(Clone, Copy)]
-pub enum Sample {
-    Outside,
-    Inside(bool),
-}
-
 // The word that holds column x of row y.
 pub fn get_offset(shape: Shape, y: u32, x: u32) -> usize
     requires { Limits shape }
@@ -54,15 +47,12 @@ pub fn check_in_bounds(words: &[u64], shape: Shape, x: u32, y: u32) -> bool
 }
 
 // The pixel at column x of row y, or none outside the width or height, where nothing is read.
-pub fn try_get(words: &[u64], marks: &mut [u64], shape: Shape, x: u32, y: u32) -> Sample
+pub fn try_get(words: &[u64], marks: &mut [u64], shape: Shape, x: u32, y: u32) -> Option<bool>
     requires { Image shape words.now marks.old }
     ensures { Ran (try_get shape x y) words.now marks.old result marks.new }
 {
-    if x >= shape.width {
-        return Sample::Outside;
+    if x >= shape.width || y >= shape.height {
+        return None;
     }
-    if y >= shape.height {
-        return Sample::Outside;
-    }
-    Sample::Inside(get(words, marks, shape, x, y))
+    Some(get(words, marks, shape, x, y))
 }

@@ -1,10 +1,8 @@
 -- What holds of counts: over two lists in a row, at most the pixels counted, and none at the first pixel outside. Assumes nothing.
-use Prim.Native.Nat.{ℕ, zero, suc, ◌+◌, ◌-◌, ◌*◌, ◌≤◌, ◌<◌}
-use mathlib.Core.List.{List, [], ◌∷◌, ◌++◌, flat_map}
-use mathlib.Core.Logic.{◌⊎◌, inl, inr}
-use mathlib.Core.Path.{◌≡◌, refl, sym, ap, ◌∙◌, fun_ext}
-use native.Mathlib.Omega.{arith}
-use lib.ListN.{length, length-append, length-map}
+use Rattle.std.proofs.Common.{Bool, Option, None, Some, ℕ, zero, suc, ◌+◌, ◌-◌, ◌*◌, ◌≤◌, ◌<◌, List, [], ◌∷◌, ◌++◌, ◌⊎◌, inl, inr, ◌≡◌, refl, sym, ap, ◌∙◌, arith, length, length-append}
+use mathlib.Core.List.{flat_map}
+use Rattle.std.proofs.lemmas.List.{length-map}
+use Rattle.std.proofs.Math.Path.{fun_ext}
 use Rattle.reads.specs.Reads.{Reads, done, ◌>>=◌}
 use Rattle.reads.specs.ReadsLaws.{Always}
 use Rattle.reads.proofs.ReadsLaws.{bind_assoc, always_done, always_after}
@@ -16,10 +14,6 @@ use Rattle.bit_matrix.specs.declared.Shape.{Shape}
 use Rattle.bit_matrix.specs.Pixels.{try_get, if_sample}
 use Rattle.bit_matrix.specs.PixelsLaws.{ran_outside}
 use Rattle.bit_matrix_area.specs.Area.{Cell, column, box, if_count, count_black, try_get_area}
-use Rattle.bit_matrix.specs.declared.Sample.{Sample}
-use Rattle.bit_matrix.specs.declared.Sample.TheVariants.{Outside, Inside}
-use Rattle.bit_matrix_area.specs.declared.Count.{Count}
-use Rattle.bit_matrix_area.specs.declared.Count.TheVariants as count
 
 -- ---- how many pixels
 
@@ -36,7 +30,7 @@ pub length_box : (left right from to : ℕ) → length (box left right from to) 
 length_box left right from to = length_columns from to (right - left) left
 
 -- a count is at most `most`
-pub record Few (most : ℕ) (counted : Count) : Type 0 where
+pub record Few (most : ℕ) (counted : Option ℕ) : Type 0 where
   pub few : if_count 0 (λ n. n) counted ≤ most
 
 module _ (shape : Shape) where
@@ -44,21 +38,21 @@ module _ (shape : Shape) where
 
   pub count_append : (cells more : List Cell) (n : ℕ)
       → count_black shape (cells ++ more) n
-      ≡ count_black shape cells n >>= if_count (done count.Outside) (count_black shape more)
+      ≡ count_black shape cells n >>= if_count (done None) (count_black shape more)
   unfolding count_black ◌>>=◌
   count_append [] more n = refl
   count_append (cell ∷ cells) more n =
-      ap (λ (k : Sample → Reads Count). try_get shape cell.0 cell.1 >>= k) (fun_ext (next λ m. count_append cells more m))
+      ap (λ (k : Option Bool → Reads (Option ℕ)). try_get shape cell.0 cell.1 >>= k) (fun_ext (next λ m. count_append cells more m))
       ∙ sym (bind_assoc (try_get shape cell.0 cell.1) _ _)
     where
       next : ((m : ℕ) → count_black shape (cells ++ more) m
-          ≡ count_black shape cells m >>= if_count (done count.Outside) (count_black shape more))
-          → (sample : Sample)
-          → if_sample (done count.Outside) (λ black. count_black shape (cells ++ more) (n + digit black)) sample
-          ≡ if_sample (done count.Outside) (λ black. count_black shape cells (n + digit black)) sample
-          >>= if_count (done count.Outside) (count_black shape more)
-      next rest Outside = refl
-      next rest (Inside black) = rest (n + digit black)
+          ≡ count_black shape cells m >>= if_count (done None) (count_black shape more))
+          → (sample : Option Bool)
+          → if_sample (done None) (λ black. count_black shape (cells ++ more) (n + digit black)) sample
+          ≡ if_sample (done None) (λ black. count_black shape cells (n + digit black)) sample
+          >>= if_count (done None) (count_black shape more)
+      next rest None = refl
+      next rest (Some black) = rest (n + digit black)
 
   -- ---- at most the pixels
 
@@ -67,13 +61,13 @@ module _ (shape : Shape) where
   count_few [] n most h = always_done (record { few = omega arith })
   count_few (cell ∷ cells) n most h = always_after _ _ (next λ k room. count_few cells k most room)
     where
-      next : ((k : ℕ) → k + length cells ≤ most → Always (Few most) (count_black shape cells k)) → (sample : Sample)
-          → Always (Few most) (if_sample (done count.Outside) (λ black. count_black shape cells (n + digit black)) sample)
-      next rest Outside = always_done (record { few = omega arith })
-      next rest (Inside black) = rest (n + digit black) (omega (arith, digit_low black))
+      next : ((k : ℕ) → k + length cells ≤ most → Always (Few most) (count_black shape cells k)) → (sample : Option Bool)
+          → Always (Few most) (if_sample (done None) (λ black. count_black shape cells (n + digit black)) sample)
+      next rest None = always_done (record { few = omega arith })
+      next rest (Some black) = rest (n + digit black) (omega (arith, digit_low black))
 
   -- a run's count, beside the `n` counted before
-  pub ran_few : (cells : List Cell) (n : ℕ) {words m₀ m₁ : List ℕ} {counted : Count}
+  pub ran_few : (cells : List Cell) (n : ℕ) {words m₀ m₁ : List ℕ} {counted : Option ℕ}
       → Ran (count_black shape cells n) words m₀ counted m₁ → Few (n + length cells) counted
   ran_few cells n ran = always_ran (count_few cells n (n + length cells) (omega arith)) ran
 
@@ -81,17 +75,17 @@ module _ (shape : Shape) where
 
   module _ {words marks : List ℕ} where
     column_outside : (x from to n : ℕ) (more : List Cell) → to - from ≡ suc n → (shape.width ≤ x) ⊎ (shape.height ≤ from)
-        → Ran (count_black shape (column x from to ++ more) 0) words marks count.Outside marks
+        → Ran (count_black shape (column x from to ++ more) 0) words marks None marks
     unfolding range count_black
     column_outside x from to n more e h = rw e (ran_bind _ (ran_outside shape x from h) (ran_done _))
 
     box_outside : (left right from to n k : ℕ) → right - left ≡ suc n → to - from ≡ suc k → (shape.width ≤ left) ⊎ (shape.height ≤ from)
-        → Ran (count_black shape (box left right from to) 0) words marks count.Outside marks
+        → Ran (count_black shape (box left right from to) 0) words marks None marks
     unfolding range flat_map
     box_outside left right from to n k e f h = rw e (column_outside left from to k _ f h)
 
     -- past the width or height an area is outside, with nothing read
-    pub area_outside : (x y : ℕ) → (shape.width < x) ⊎ (shape.height < y) → Ran (try_get_area shape x y) words marks Outside marks
+    pub area_outside : (x y : ℕ) → (shape.width < x) ⊎ (shape.height < y) → Ran (try_get_area shape x y) words marks None marks
     unfolding try_get_area
     area_outside x y h =
         ran_bind _ (box_outside (x - 1) (x + 2) (y - 1) (y + 2) (x + 1 - (x - 1)) (y + 1 - (y - 1)) (omega arith) (omega arith) (go h)) (ran_done _)

@@ -1,12 +1,6 @@
 -- An area taken by whole words is the area pixel by pixel: nine bits row by row as column by column. Assumes nothing.
-use Prim.Native.Nat.{ℕ, zero, suc, ◌+◌, ◌-◌, ◌*◌, ◌≤◌, ◌<◌}
-use mathlib.Core.Bool.{Bool}
-use mathlib.Core.List.{List, [], ◌∷◌, ◌++◌, map, flat_map}
-use mathlib.Core.Path.{◌≡◌, refl, ap, ap₂, ◌∙◌}
-use native.Mathlib.Nat.{add_assoc, add-zero}
-use native.Mathlib.Omega.{arith}
-use borrow.Author.Tests.{lt-ltb}
-use lib.ListN.{length}
+use Rattle.std.proofs.Common.{Some, ℕ, zero, suc, ◌+◌, ◌-◌, ◌*◌, ◌≤◌, ◌<◌, Bool, List, [], ◌∷◌, ◌++◌, map, ◌≡◌, refl, ap, ap₂, ◌∙◌, add_assoc, add-zero, arith, lt-ltb, length}
+use mathlib.Core.List.{flat_map}
 use Rattle.reads.specs.Bits.{digit, bit_at, mark, mark_all, range}
 use Rattle.reads.proofs.BitsLaws.{length_mark}
 use Rattle.reads.proofs.OrderLaws.{transposed}
@@ -19,8 +13,6 @@ use Rattle.bit_matrix.specs.Pixels.{try_get}
 use Rattle.bit_matrix.specs.PixelsLaws.{ran_pixel}
 use Rattle.bit_matrix_nine.specs.AreaWords.{set_bits, HalfBlack, three_of, nine_of, InWords}
 use Rattle.bit_matrix_area.specs.Area.{Cell, count_black, try_get_area}
-use Rattle.bit_matrix.specs.declared.Sample.TheVariants.{Inside}
-use Rattle.bit_matrix_area.specs.declared.Count.TheVariants as count
 
 -- ---- nine pixels
 
@@ -35,7 +27,7 @@ module _ (words : List ℕ) (shape : Shape) (full : length words ≡ size shape)
   flat cell = cell.1 * shape.row_words * 64 + cell.0
 
   ran_inside : (marks : List ℕ) (x y : ℕ) → length marks ≡ length words → shapes.Inside shape x y
-      → Ran (try_get shape x y) words marks (Inside (bit_at words (y * shape.row_words * 64 + x))) (mark marks (y * shape.row_words * 64 + x))
+      → Ran (try_get shape x y) words marks (Some (bit_at words (y * shape.row_words * 64 + x))) (mark marks (y * shape.row_words * 64 + x))
   unfolding try_get
   ran_inside marks x y sized inside =
       ran_then _ _ (lt-ltb x shape.width inside.column)
@@ -43,7 +35,7 @@ module _ (words : List ℕ) (shape : Shape) (full : length words ≡ size shape)
 
   -- pixels inside are counted and marked, each by its flat index
   count_inside : (cells : List Cell) (n : ℕ) (marks : List ℕ) → length marks ≡ length words → AllInside shape cells
-      → Ran (count_black shape cells n) words marks (count.Black (n + set_bits words (map flat cells))) (mark_all marks (map flat cells))
+      → Ran (count_black shape cells n) words marks (Some (n + set_bits words (map flat cells))) (mark_all marks (map flat cells))
   unfolding count_black set_bits mark_all AllInside
   count_inside [] n marks sized within = rw (add-zero n) (ran_done _)
   count_inside (cell ∷ cells) n marks sized (inside, rest) =
@@ -94,7 +86,7 @@ module _ (words : List ℕ) (shape : Shape) (full : length words ≡ size shape)
   -- an area that lies in words
   pub area_in_words : {marks after : List ℕ} {x y : ℕ} {half : Bool} → InWords shape x y → length marks ≡ length words
       → HalfBlack words marks (nine_of shape (x - 1) (y - 1)) half after
-      → Ran (try_get_area shape x y) words marks (Inside half) after
+      → Ran (try_get_area shape x y) words marks (Some half) after
   unfolding try_get_area range flat_map
   area_in_words {marks} {after} {x} {y} {half} inside sized taken =
       let across : x + 2 - (x - 1) ≡ 3 = omega (arith, inside.left) in
@@ -102,6 +94,6 @@ module _ (words : List ℕ) (shape : Shape) (full : length words ≡ size shape)
       let within = within_columns 3 (x - 1) (y - 1) 3 (omega (arith, inside.right)) (omega (arith, inside.bottom)) in
       let n = set_bits words (nine_of shape (x - 1) (y - 1)) in
       let total : 0 + set_bits words (map flat (square (x - 1) (y - 1))) ≡ n = omega (arith, square_black (x - 1) (y - 1)) in
-      let ran : Ran (count_black shape (square (x - 1) (y - 1)) 0) words marks (count.Black n) after =
+      let ran : Ran (count_black shape (square (x - 1) (y - 1)) 0) words marks (Some n) after =
       rw (taken.marked, ← total, ← square_marked marks (x - 1) (y - 1)) (count_inside (square (x - 1) (y - 1)) 0 marks sized within) in
       rw (taken.black, across, tall) (ran_bind _ ran (ran_done _))

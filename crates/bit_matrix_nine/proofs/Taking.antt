@@ -1,14 +1,8 @@
 -- Three bits of a word taken and marked by shift and mask, and three rows of three. Assumes nothing.
-use Prim.Native.Nat.{ℕ, zero, suc, ◌+◌, ◌*◌, ◌/◌, ◌%◌, ◌^◌, ◌≤◌, ◌<◌}
-use mathlib.Core.Bool.{Bool, not}
-use mathlib.Core.List.{List, [], ◌∷◌, ◌++◌, flat_map}
-use mathlib.Core.Path.{◌≡◌, refl, sym, ap, ◌∙◌}
-use native.Mathlib.Omega.{arith}
-use lib.Arith.{digits_div, digits_mod, mod-mul}
-use lib.Bits.{bit_and, bit_or, and_mask}
-use lib.Dec.{eqb, leb, lit<}
-use lib.ListN.{length, get_or, set}
-use lib.Pow.{shl_exact, shr-shr}
+use Rattle.std.proofs.Common.{ℕ, zero, suc, ◌+◌, ◌*◌, ◌/◌, ◌%◌, ◌^◌, ◌≤◌, ◌<◌, Bool, not, List, [], ◌∷◌, ◌++◌, ◌≡◌, refl, sym, ap, ◌∙◌, arith, bit_and, bit_or, eqb, leb, lit<, length, get_or, set, shl_exact, shr-shr}
+use mathlib.Core.List.{flat_map}
+use Rattle.std.proofs.lemmas.Nat.{and_mask}
+use Rattle.std.proofs.Math.Arith.{digits_div, digits_mod, mod-mul}
 use Rattle.reads.specs.Bits.{digit, test_bit, bit_at, mark_all, range}
 use Rattle.reads.proofs.BitsLaws.{digit_low, mark_all_append}
 use Rattle.reads.proofs.MasksLaws.{marked_word}

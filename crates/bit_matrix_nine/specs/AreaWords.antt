@@ -1,6 +1,6 @@
 -- What the functions say that take an area by whole words. Assumes nothing.
-use Rattle.std.specs.Prelude.{ℕ, ◌+◌, ◌-◌, ◌*◌, ◌/◌, ◌%◌, ◌≤◌, ◌<◌, Bool, ◌≡◌, leb, length}
-use mathlib.Core.List.{List, [], ◌∷◌, flat_map}
+use Rattle.std.specs.Prelude.{ℕ, ◌+◌, ◌-◌, ◌*◌, ◌/◌, ◌%◌, ◌≤◌, ◌<◌, Bool, ◌≡◌, leb, length, List, [], ◌∷◌}
+use mathlib.Core.List.{flat_map}
 use Rattle.reads.specs.Bits.{digit, bit_at, mark_all, range}
 use Rattle.bit_matrix.specs.declared.Shape.{Shape}
 

@@ -7,17 +7,9 @@ ghost use Rattle.bit_matrix.specs.ShapeClauses.{Image};
 ghost use Rattle.detector_colours.specs.Colours.{right_colour, test_degree};
 ghost use Rattle.detector_colours.specs.Looks.{look_past, look_offset};
 
-use bit_matrix::{Sample, Shape};
+use bit_matrix::Shape;
 use rxing_result_point::Point;
 use sines::Angle;
-
-// What a degree's test answers. A point whose area passes the last column or row ends the scale.
-#[derive(Clone, Copy)]
-pub enum Degree {
-    Found,
-    WrongColour,
-    Outside,
-}
 
 // A digit for each point, the first the lowest, 1 for black: group 0 is black, group 1 white, the others black, white, black.
 const BLACK_POINTS: u32 = 0b101_101_101_101_000_111;
@@ -38,7 +30,7 @@ fn look(
     center: Point,
     angle: Angle,
     offset: Point,
-) -> Sample
+) -> Option<bool>
     requires { Image shape words.now marks.old }
     ensures { Ran (look_past shape center angle offset) words.now marks.old result marks.new }
 {
@@ -51,36 +43,23 @@ fn look(
     bit_matrix_area::try_get_area(words, marks, shape, x, y)
 }
 
-// All eighteen points have the right colour, or the first that has not, or is outside, ends it.
+// Whether all eighteen points have the right colour; the first that has not ends it. None where a point's area passes the last column or row.
 pub fn test_degree(
     words: &[u64],
     marks: &mut [u64],
     shape: Shape,
     center: Point,
-    columns: &[f32; 18],
-    rows: &[f32; 18],
+    offsets: &[Point; 18],
     angle: Angle,
-) -> Degree
+) -> Option<bool>
     requires { Image shape words.now marks.old }
-    ensures { Ran (test_degree (look_offset shape center columns.now rows.now angle))
-        words.now marks.old result marks.new }
+    ensures { Ran (test_degree (look_offset shape center offsets.now angle)) words.now marks.old result marks.new }
 {
-    let mut k = 0usize;
-    while k < 18 {
-        let u = columns[k];
-        let v = rows[k];
-        let sample = look(words, marks, shape, center, angle, Point { x: u, y: v });
-        match sample {
-            Sample::Outside => {
-                return Degree::Outside;
-            }
-            Sample::Inside(black) => {
-                if !right_colour(k, black) {
-                    return Degree::WrongColour;
-                }
-            }
+    for (k, offset) in offsets.iter().enumerate() {
+        let black = look(words, marks, shape, center, angle, *offset)?;
+        if !right_colour(k, black) {
+            return Some(false);
         }
-        k += 1;
     }
-    Degree::Found
+    Some(true)
 }

@@ -1,38 +1,33 @@
 -- Which degrees are found, on every image; and that a degree's test needs of the degree its sine and cosine alone. Assumes nothing.
-use Rattle.std.specs.Prelude.{◌≡◌, ℕ, zero, suc, ◌+◌, ◌*◌, ◌%◌, ◌≤◌, List, Float}
+use Rattle.std.specs.Prelude.{Option, None, Some, Bool, true, false, ◌≡◌, ℕ, zero, suc, ◌+◌, ◌*◌, ◌%◌, ◌≤◌, List, Float}
 use Rattle.std.proofs.Math.Path.{refl, ap₂}
 use Rattle.std.proofs.Common.{arith}
 use Rattle.reads.specs.Reads.{Reads, done, ◌>>=◌}
 use Rattle.reads.specs.ReadsLaws.{Always}
 use Rattle.reads.proofs.ReadsLaws.{always_done, always_after}
 use Rattle.bit_matrix.specs.declared.Shape.{Shape}
-use Rattle.bit_matrix.specs.declared.Sample.{Sample}
 use Rattle.sines.specs.Sines.{sine_of, cosine_of}
 use Rattle.sines.specs.declared.Angle.{Angle}
 use Rattle.rxing_result_point.specs.declared.PointU.{PointU}
 use Rattle.detector_colours.specs.Colours.{if_degree, test_degree}
 use Rattle.detector_degrees.specs.Degrees.{if_rotation, degrees_from, look_at, try_degrees}
 use Rattle.detector_degrees.specs.SourceDegrees.{look_at_degree, test_at_degree, degrees_at}
-use Rattle.detector_colours.specs.declared.Degree.{Degree}
-use Rattle.detector_colours.specs.declared.Degree.TheVariants.{Found, WrongColour, Outside}
-use Rattle.detector_degrees.specs.declared.Rotation.{Rotation}
-use Rattle.detector_degrees.specs.declared.Rotation.TheVariants as rotation
 
 -- a found degree is even and at most 348
-pub record Tried (found : Rotation) : Type 0 where
+pub record Tried (found : Option ℕ) : Type 0 where
   pub even : if_rotation 0 (λ degree. degree % 2) found ≡ 0
   pub low : if_rotation 0 (λ degree. degree) found ≤ 348
 
-from_tried : (look : Angle → ℕ → Reads Sample) (n i : ℕ) → i + n ≤ 175 → Always Tried (degrees_from look n i)
+from_tried : (look : Angle → ℕ → Reads (Option Bool)) (n i : ℕ) → i + n ≤ 175 → Always Tried (degrees_from look n i)
 unfolding degrees_from
 from_tried look zero i h = always_done (record { even = refl; low = omega arith })
 from_tried look (suc n) i h = always_after _ _ (next (from_tried look n (i + 1) (omega arith)))
   where
-    next : Always Tried (degrees_from look n (i + 1)) → (tested : Degree)
-        → Always Tried (if_degree (done (rotation.Found (i * 2))) (degrees_from look n (i + 1)) (done rotation.None) tested)
-    next rest Found = always_done (record { even = omega arith; low = omega arith })
-    next rest WrongColour = rest
-    next rest Outside = always_done (record { even = refl; low = omega arith })
+    next : Always Tried (degrees_from look n (i + 1)) → (tested : Option Bool)
+        → Always Tried (if_degree (done (Some (i * 2))) (degrees_from look n (i + 1)) (done None) tested)
+    next rest (Some true) = always_done (record { even = omega arith; low = omega arith })
+    next rest (Some false) = rest
+    next rest None = always_done (record { even = refl; low = omega arith })
 
 pub tried : (shape : Shape) (center : PointU) (groups : List (List PointU)) → Always Tried (try_degrees shape center groups)
 unfolding try_degrees
@@ -53,7 +48,7 @@ module _ (shape : Shape) (center : PointU) (groups : List (List PointU)) where
   same_from zero i = refl
   same_from (suc n) i =
       ap₂
-      (λ (test : Reads Degree) (rest : Reads Rotation). test >>= if_degree (done (rotation.Found (i * 2))) rest (done rotation.None))
+      (λ (test : Reads (Option Bool)) (rest : Reads (Option ℕ)). test >>= if_degree (done (Some (i * 2))) rest (done None))
       (test_by_angle (i * 2) refl refl)
       (same_from n (i + 1))
 

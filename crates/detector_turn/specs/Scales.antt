@@ -1,6 +1,6 @@
 -- The loop over `ACCEPTED_SCALES` in `box_symbol` of detector.rs. Each scale first replaces the centre by the corrected one; a corrected centre outside the
 -- image ends the loop, and so does the first scale with a rotation. Definitions only. Assumes nothing.
-use Rattle.std.specs.Prelude.{ℕ, zero, suc, ◌+◌, ◌-◌, Bool, cond, ◌||◌, List, [], ◌∷◌, leb, Float, get_or}
+use Rattle.std.specs.Prelude.{ℕ, zero, suc, ◌+◌, ◌-◌, Bool, cond, ◌||◌, List, [], ◌∷◌, leb, Float, Option, get_or}
 use Rattle.std.specs.Float.{nan, binary64}
 use Rattle.std.specs.Float.Ieee.{of_bits}
 use Rattle.reads.specs.Reads.{Reads, done, ◌>>=◌}
@@ -10,7 +10,6 @@ use Rattle.detector_boundary.specs.Boundary.{scaled_boundary}
 use Rattle.detector_points.specs.Orientation.{orientation_points}
 use Rattle.detector_circle.specs.declared.Circle.{Circle}
 use Rattle.detector_circle.specs.Circle.{corrected_circle}
-use Rattle.detector_degrees.specs.declared.Rotation.{Rotation}
 use Rattle.detector_degrees.specs.Degrees.{if_rotation, try_degrees}
 use Rattle.detector_outcome.specs.declared.Turn.{Turn}
 use Rattle.detector_outcome.specs.Outcomes.{turned_by, not_turned, lost_at}
@@ -34,7 +33,7 @@ is_outside shape p = leb shape.width p.x || leb shape.height p.y
 
 module _ (shape : Shape) where
   -- `attempt_rotation_box` about the corrected centre: the degrees, with the points adjusted to the scale's boundary
-  unfoldable pub attempt_rotation_box : Circle → Float → Reads Rotation
+  unfoldable pub attempt_rotation_box : Circle → Float → Reads (Option ℕ)
   attempt_rotation_box circle scale =
       try_degrees shape circle.center (orientation_points (scaled_boundary shape circle.center circle.radius scale))
 

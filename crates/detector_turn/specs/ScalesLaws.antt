@@ -1,6 +1,6 @@
 -- What holds of a turn, on every image; and that the boundary of a scale is all that its points need of circle and scale. Assumes nothing.
 use Prim.Native.Nat.{ℕ, zero, suc, ◌+◌, ◌-◌, ◌%◌, ◌≤◌, ◌<◌}
-use Rattle.std.specs.Prelude.{Bool, true, false, ◌||◌, List, ◌≡◌, refl, T, leb, Float, get_or}
+use Rattle.std.specs.Prelude.{Bool, true, false, ◌||◌, List, ◌≡◌, refl, T, leb, Float, Option, None, Some, get_or}
 use Rattle.std.proofs.Common.{true≢false, ap, ◌∙◌, arith, leb-false}
 use Rattle.std.specs.Float.{nan, binary32}
 use Rattle.std.specs.Float.Ieee.{of_bits, of_int, to_bits, le}
@@ -21,8 +21,6 @@ use Rattle.detector_points.specs.Orientation.{orientation_points}
 use Rattle.detector_points.specs.SourcePoints.{scaled_points}
 use Rattle.detector_points.specs.PointsLaws.{points_by_boundary}
 use Rattle.detector_circle.specs.declared.Circle.{Circle}
-use Rattle.detector_degrees.specs.declared.Rotation.{Rotation}
-use Rattle.detector_degrees.specs.declared.Rotation.TheVariants.{Found, None}
 use Rattle.detector_degrees.specs.Degrees.{if_rotation, try_degrees}
 use Rattle.detector_degrees.specs.DegreesLaws.{Tried, tried, degrees_by_angle}
 use Rattle.detector_outcome.specs.declared.Turn.{Turn}
@@ -77,9 +75,9 @@ module _ (shape : Shape) where
       always_bind _ (attempted next scale) (tested next _ here (ended_from n (scale + 1) next (omega arith) (omega arith) here)))
     where
       tested : (next : Circle) (rest : Reads Turn) → Inside shape next.center.x next.center.y → Always (Ended shape) rest
-          → (rotation : Rotation) → Tried rotation → Always (Ended shape) (if_rotation rest (λ degree. done (turned_by degree scale next.center)) rotation)
+          → (rotation : Option ℕ) → Tried rotation → Always (Ended shape) (if_rotation rest (λ degree. done (turned_by degree scale next.center)) rotation)
       tested next rest here later None t = later
-      tested next rest here later (Found degree) t =
+      tested next rest here later (Some degree) t =
           always_done (record { even = t.even; low = t.low; rotation = refl; scale_least = first; scale_most = omega arith; inside = here })
 
   pub ended : (circle : Circle) → Inside shape circle.center.x circle.center.y → Always (Ended shape) (try_scales shape circle)

@@ -10,7 +10,6 @@ ghost use Rattle.detector_turn.specs.ScalesClauses.{LentCircle};
 
 use bit_matrix::Shape;
 use detector_circle::Circle;
-use detector_degrees::Rotation;
 use detector_outcome::Turn;
 use rxing_result_point::PointU;
 
@@ -39,7 +38,7 @@ pub fn attempt_rotation_box(
     circle: Circle,
     scale: f64,
     table: &[f32; 360],
-) -> Rotation
+) -> Option<u32>
     requires { LentCircle shape words.now marks.old circle table.now × T (is_scale scale) }
     ensures { Ran (attempt_rotation_box shape circle scale) words.now marks.old result marks.new }
 {
@@ -69,7 +68,7 @@ pub fn try_scales(
         }
         let percent = accepted_scale(scale);
         let rotation = attempt_rotation_box(words, marks, shape, next, percent, table);
-        if let Rotation::Found(degree) = rotation {
+        if let Some(degree) = rotation {
             return detector_outcome::turned_by(degree, scale, next.center);
         }
         let center = next.center;

@@ -1,16 +1,7 @@
 -- `bit_matrix::get` meets its contract: past the last word nothing is read, and otherwise the shift and mask read the pixel's bit, and the union marks it.
-use mathlib.Core.Path.{◌≡◌, sym, ◌∙◌}
-use mathlib.Core.Bool.{false, not}
-use mathlib.Core.List.{List}
-use Prim.Native.Nat.{ℕ, ◌+◌, ◌*◌, ◌/◌, ◌%◌, ◌^◌, ◌≤◌, ◌<◌}
-use native.Mathlib.Nat.{one-mul}
-use native.Mathlib.Omega.{arith}
-use borrow.Author.Tests.{lt-ltb, le-ltb}
-use lib.ListN.{length, get_or, set}
-use lib.Arith.{digits_div, digits_mod}
-use lib.Bits.{bit_and, bit_or, and_mask}
-use lib.Dec.{eqb, lit<}
-use lib.Pow.{shl_exact}
+use Rattle.std.proofs.Common.{◌≡◌, sym, ◌∙◌, false, not, List, ℕ, ◌+◌, ◌*◌, ◌/◌, ◌%◌, ◌^◌, ◌≤◌, ◌<◌, one-mul, arith, lt-ltb, le-ltb, length, get_or, set, bit_and, bit_or, eqb, lit<, shl_exact}
+use Rattle.std.proofs.Math.Arith.{digits_div, digits_mod}
+use Rattle.std.proofs.lemmas.Nat.{and_mask}
 use Rattle.reads.specs.Bits.{test_bit, set_bit, bit_at, mark}
 use Rattle.reads.specs.RunsClauses.{Ran}
 use Rattle.reads.proofs.RunsLaws.{ran_done, ran_read, ran_then, ran_else}

@@ -1,9 +1,5 @@
--- `bit_matrix::count_box` meets its contract. The invariant is `Counting`: from the present column, what is left of the definition ends as the whole does.
--- The measure is the columns left.
-use Prim.Native.Nat.{ℕ, ◌-◌, ◌*◌, ◌≤◌}
-use mathlib.Core.Path.{◌≡◌}
-use mathlib.Core.List.{List}
-use lib.ListN.{length}
+-- `bit_matrix_area::count_box` meets its contract. The invariant is `Counting`: from the present column, what is left of the definition ends as the whole does.
+use Rattle.std.proofs.Common.{ℕ, ◌-◌, ◌*◌, ◌≤◌, ◌≡◌, List, length}
 use Rattle.reads.specs.RunsClauses.{Resumes}
 use Rattle.bit_matrix.specs.declared.Shape.{Shape}
 use Rattle.bit_matrix_area.specs.Area.{box, count_black}
@@ -19,6 +15,3 @@ pub record Counting (words marks₀ : List ℕ) (shape : Shape) (left right from
 
 abbrev pub invariant-loop-x : goal.invariant-loop-x
 invariant-loop-x l = Counting l.words l.initial.marks l.shape l.left l.right l.from l.to l.marks l.black l.x
-
-abbrev pub decreases-loop-x : goal.decreases-loop-x
-decreases-loop-x l = l.right - l.x

@@ -1,9 +1,5 @@
--- `bit_matrix::count_column` meets its contract. The invariant is `Counting`: from the present row, what is left of the definition ends as the whole does.
--- The measure is the rows left.
-use Prim.Native.Nat.{ℕ, ◌+◌, ◌-◌, ◌^◌, ◌<◌}
-use mathlib.Core.Path.{◌≡◌}
-use mathlib.Core.List.{List}
-use lib.ListN.{length}
+-- `bit_matrix_area::count_column` meets its contract. The invariant is `Counting`: from the present row, what is left of the definition ends as the whole does.
+use Rattle.std.proofs.Common.{ℕ, ◌+◌, ◌-◌, ◌^◌, ◌<◌, ◌≡◌, List, length}
 use Rattle.reads.specs.RunsClauses.{Resumes}
 use Rattle.bit_matrix.specs.declared.Shape.{Shape}
 use Rattle.bit_matrix_area.specs.Area.{column, count_black}
@@ -18,6 +14,3 @@ pub record Counting (words marks₀ : List ℕ) (shape : Shape) (x from to black
 
 abbrev pub invariant-loop-y : goal.invariant-loop-y
 invariant-loop-y l = Counting l.words l.initial.marks l.shape l.x l.from l.to l.black l.marks l.count l.y
-
-abbrev pub decreases-loop-y : goal.decreases-loop-y
-decreases-loop-y l = l.to - l.y

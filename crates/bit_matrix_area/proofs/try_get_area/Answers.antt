@@ -1,12 +1,6 @@
 -- `bit_matrix_area::try_get_area` meets its contract: the area is taken by words where they hold it, and by pixels elsewhere; past the width or height
 -- nothing is read.
-use Prim.Native.Nat.{ℕ, ◌+◌, ◌-◌, ◌<◌}
-use mathlib.Core.List.{List}
-use mathlib.Core.Logic.{inl, inr}
-use mathlib.Core.Path.{◌≡◌}
-use native.Mathlib.Omega.{arith}
-use borrow.Author.Rules.{rules}
-use lib.ListN.{length}
+use Rattle.std.proofs.Common.{⊎_elim, ℕ, ◌+◌, ◌-◌, ◌<◌, List, inl, inr, ◌≡◌, arith, rules, length}
 use Rattle.bit_matrix.specs.declared.Shape.{Shape}
 use Rattle.bit_matrix.specs.ShapeClauses.{Image, Inside}
 use Rattle.bit_matrix.specs.Pixels.{offset}
@@ -22,14 +16,8 @@ last_row {shape} {x} {y} image inside =
     let below : Inside shape (x - 1) (y + 1) = record { column = omega (arith, inside.right); row = inside.bottom } in
     rw (same, image.stored) (inside_stored image.limits (x - 1) (y + 1) below)
 
-pub overflow_sub-x : goal.overflow_sub-x
-overflow_sub-x c = omega (arith, (c.in_words.ensures c.if-in_words.true).left)
-
-pub overflow_sub-y : goal.overflow_sub-y
-overflow_sub-y c = omega (arith, (c.in_words.ensures c.if-in_words.true).top)
-
-pub half_of_nine-black-requires : goal.half_of_nine-black-requires
-half_of_nine-black-requires c =
+pub half_of_nine-requires : goal.half_of_nine-requires
+half_of_nine-requires c =
     let inside = c.in_words.ensures c.if-in_words.true in
     search (rules, last_row)
 
@@ -39,7 +27,4 @@ returns-then-in_words c =
     search area_in_words
 
 pub returns-then-x-shape : goal.returns-then-x-shape
-returns-then-x-shape c = area_outside _ _ _ (inl c.if-x-shape.true)
-
-pub returns-then-y-shape : goal.returns-then-y-shape
-returns-then-y-shape c = area_outside _ _ _ (inr c.if-y-shape.true)
+returns-then-x-shape c = area_outside _ _ _ (⊎_elim inl (λ past. inr past.1) c.then-x-shape.either)

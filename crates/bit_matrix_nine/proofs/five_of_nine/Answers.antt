@@ -1,11 +1,9 @@
 -- `bit_matrix_nine::five_of_nine` meets its contract: one test that passes for all numbers below 8, computed.
-use Prim.Native.Nat.{ℕ, ◌+◌, ◌*◌, ◌/◌, ◌%◌, ◌^◌, ◌<◌}
-use mathlib.Core.Bool.{Bool, not, beq}
-use mathlib.Core.Path.{◌≡◌}
-use native.Mathlib.Omega.{arith}
-use lib.Arith.{digits_div, digits_mod}
-use lib.Bits.{bit_and, bit_or, bit_xor, and_lt, or_lt, xor_lt}
-use lib.Dec.{eqb, leb}
+use Rattle.std.proofs.Common.{ℕ, ◌+◌, ◌*◌, ◌/◌, ◌%◌, ◌^◌, ◌<◌, Bool, not, ◌≡◌, arith, bit_and, bit_or, bit_xor, eqb, leb}
+use Rattle.std.proofs.lemmas.Nat.{or_lt, xor_lt}
+use Rattle.std.proofs.Math.Arith.{digits_div, digits_mod}
+use Rattle.std.proofs.Math.Bool.{beq}
+use Rattle.std.specs.Int.Bits.{and_lt}
 use Rattle.reads.specs.EveryLaws.{every_at, same_truth}
 use Rattle.bit_matrix_nine.specs.AreaWords.{ones}
 use Rattle.bit_matrix_nine.proofs.five_of_nine.Goals as goal
@@ -40,18 +38,6 @@ module _ (a b c : ℕ) (first : a < 8) (second : b < 8) (third : c < 8) where
         xor_lt 3 (bit_xor a b) c (xor_lt 3 a b first second) third,
         or_lt 3 (bit_and a b) (bit_and (bit_xor a b) c) (and_lt 3 a b first second) (and_lt 3 (bit_xor a b) c (xor_lt 3 a b first second) third),
       )
-
-  product_fits : 8 * pairs a b c < 2 ^ 64
-  product_fits = omega (arith, low)
-
-  sum_fits : odd a b c + 8 * pairs a b c < 2 ^ 64
-  sum_fits = omega (arith, low)
-
-pub overflow_mul-result : goal.overflow_mul-result
-overflow_mul-result c = record { fits = search product_fits }
-
-pub overflow_add-result : goal.overflow_add-result
-overflow_add-result c = record { fits = search sum_fits }
 
 pub overflow_shr-result : goal.overflow_shr-result
 overflow_shr-result c = search low

@@ -1,9 +1,6 @@
 -- `detector_colours::right_colour` meets its contract: one test that passes for all points and both colours, computed.
-use Prim.Native.Nat.{ℕ, ◌/◌, ◌^◌, ◌<◌}
-use mathlib.Core.Bool.{Bool, true, false, not, beq}
-use mathlib.Core.Path.{◌≡◌}
-use lib.Bits.{bit_and}
-use lib.Dec.{eqb}
+use Rattle.std.proofs.Common.{ℕ, ◌/◌, ◌^◌, ◌<◌, Bool, true, false, not, ◌≡◌, bit_and, eqb}
+use Rattle.std.proofs.Math.Bool.{beq}
 use Rattle.reads.specs.EveryLaws.{every_at, same_truth}
 use Rattle.detector_colours.specs.Colours.{right_colour}
 use Rattle.detector_colours.proofs.right_colour.Goals as goal

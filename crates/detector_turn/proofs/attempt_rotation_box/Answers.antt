@@ -1,4 +1,5 @@
 -- `detector_turn::attempt_rotation_box` meets its contract: the degrees' run, at the points that the other calls give.
+use Rattle.std.specs.Prelude.{Option}
 use Prim.Native.Nat.{ℕ}
 use mathlib.Core.List.{List}
 use mathlib.Core.Path.{◌≡◌}
@@ -14,7 +15,6 @@ use Rattle.detector_boundary.specs.InImageLaws.{scaled_placed}
 use Rattle.detector_boundary.specs.BoundaryClauses.{Placed}
 use Rattle.detector_points.specs.Orientation.{orientation_points}
 use Rattle.detector_circle.specs.declared.Circle.{Circle}
-use Rattle.detector_degrees.specs.declared.Rotation.{Rotation}
 use Rattle.detector_degrees.specs.Degrees.{try_degrees}
 use Rattle.detector_turn.specs.Scales.{attempt_rotation_box}
 use Rattle.detector_turn.specs.ScalesClauses.{LentCircle}
@@ -26,7 +26,7 @@ placed : {shape : Shape} {words marks : List ℕ} {circle : Circle} {table : Lis
     → LentCircle shape words marks circle table → T (is_scale scale) → b ≡ scaled_boundary shape circle.center circle.radius scale → Placed b
 placed scale lent t e = rw e (scaled_placed scale (centered_of lent) lent.least lent.most t)
 
-attempted : {words marks after : List ℕ} {r : Rotation} (shape : Shape) (circle : Circle) (scale : Float)
+attempted : {words marks after : List ℕ} {r : Option ℕ} (shape : Shape) (circle : Circle) (scale : Float)
     {b : Boundary} {points : List (List PointU)}
     → b ≡ scaled_boundary shape circle.center circle.radius scale → points ≡ orientation_points b
     → Ran (try_degrees shape circle.center points) words marks r after

@@ -1,4 +1,5 @@
 -- `detector_turn::try_scales` meets its contract.
+use Rattle.std.specs.Prelude.{Option, None, Some}
 use Prim.Native.Nat.{ℕ, suc, ◌+◌, ◌-◌, ◌≤◌, ◌<◌}
 use mathlib.Core.Bool.{Bool, true, false}
 use mathlib.Core.List.{List}
@@ -16,8 +17,6 @@ use Rattle.detector_walks.specs.WalksLaws.{lent_on}
 use Rattle.detector_size.specs.SizeClauses.{is_scale}
 use Rattle.detector_circle.specs.declared.Circle.{Circle}
 use Rattle.detector_circle.specs.Circle.{corrected_circle}
-use Rattle.detector_degrees.specs.declared.Rotation.{Rotation}
-use Rattle.detector_degrees.specs.declared.Rotation.TheVariants.{Found, None}
 use Rattle.detector_outcome.specs.declared.Turn.{Turn}
 use Rattle.detector_turn.specs.Scales.{accepted_scale, is_outside, attempt_rotation_box, scales_from, try_scales}
 use Rattle.detector_turn.specs.ScalesClauses.{LentCircle}
@@ -79,8 +78,8 @@ module _ {words marks₀ marks : List ℕ} {shape : Shape} {table : List Float} 
         is_scale_lem : T (is_scale percent)
         is_scale_lem = rw s (scale_accepted scale trying.first h)
 
-        module _ {rotation : Rotation} {last : List ℕ} (tried : Ran (attempt_rotation_box shape next percent) words after rotation last) where
-          found : {r : Turn} {degree : ℕ} → rotation ≡ Found degree → r ≡ turned_by degree scale next.center → Result r last
+        module _ {rotation : Option ℕ} {last : List ℕ} (tried : Ran (attempt_rotation_box shape next percent) words after rotation last) where
+          found : {r : Turn} {degree : ℕ} → rotation ≡ Some degree → r ≡ turned_by degree scale next.center → Result r last
           unfolding scales_from
           found is e =
               resumes_end (ran_is e)
@@ -109,13 +108,13 @@ returns-then-is_outside c = search outside
 pub attempt_rotation_box-rotation-requires : goal.attempt_rotation_box-rotation-requires
 attempt_rotation_box-rotation-requires c = (search lent_next, search is_scale_lem)
 
-pub shape_of-marks-in-Found : goal.shape_of-marks-in-Found
-shape_of-marks-in-Found c =
+pub shape_of-marks-in-Some : goal.shape_of-marks-in-Some
+shape_of-marks-in-Some c =
     ran_length c.attempt_rotation_box-rotation.ensures ∙ ran_length c.with_corrected_center-next.ensures
     ∙ c.loop-scale.invariant.lent.lent.image.sized ∙ sym c.requires.lent.image.sized
 
-pub returns-in-Found : goal.returns-in-Found
-returns-in-Found c = search found
+pub returns-in-Some : goal.returns-in-Some
+returns-in-Some c = search found
 
 pub loop-scale-preserved : goal.loop-scale-preserved
 loop-scale-preserved c =
