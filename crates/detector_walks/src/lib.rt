@@ -16,7 +16,7 @@ use rxing_result_point::{Point, PointU};
 use sines::{Angle, Sines};
 
 // What the two walks at a degree come to: how many steps they took together, and the points where they end.
-#[derive(Clone, Copy)]
+#[derive(Clone, Copy, Default)]
 pub struct Width {
     pub length: u32,
     pub left: Point,

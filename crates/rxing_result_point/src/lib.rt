@@ -8,7 +8,7 @@ ghost use Rattle.rxing_result_point.specs.Points.{turned, get_point, rounded};
 use sines::{Angle, Sines};
 
 // A pair of f32 coordinates: a corner, a walk's end, a circle's centre.
-#[derive(Clone, Copy)]
+#[derive(Clone, Copy, Default)]
 pub struct Point {
     pub x: f32,
     pub y: f32,

@@ -1,6 +1,5 @@
 -- `detector_ellipse::detect_ellipse` meets its contract: the walks' run, whose lengths are short from a centre between black pixels.
 use Rattle.std.proofs.Common.{◌≡◌, ℕ, ◌<◌, Bool, List}
-use lib.Ieee.{Float}
 use Rattle.reads.specs.Bits.{bit_at}
 use Rattle.reads.specs.RunsClauses.{Ran}
 use Rattle.reads.proofs.RunsLaws.{ran_bind, ran_is, on_ran}
@@ -15,7 +14,7 @@ use Rattle.detector_ellipse.proofs.detect_ellipse.Goals as goal
 
 module _ (shape : Shape) (center : PointU) {words marks after : List ℕ} {widths : List Width}
     (ran : Ran (widths_about shape center) words marks widths after) where
-  short : {table : List Float} → Lent shape words marks center table → Flanked shape (bit_at words) center.x center.y → longest widths < 50000
+  short : Lent shape words marks center → Flanked shape (bit_at words) center.x center.y → longest widths < 50000
   short lent flanked = on_ran {P = λ (ws : List Width). longest ws < 50000} (short_widths lent.image.limits center lent.inside words flanked) ran
 
   detected : {r : Bool} → r ≡ is_ellipse center widths → Ran (detect_ellipse shape center) words marks r after

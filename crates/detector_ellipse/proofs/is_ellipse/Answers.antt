@@ -1,12 +1,19 @@
 -- `detector_ellipse::is_ellipse` meets its contract: half of a short length, squared, stays in 32 bits, and each return is a case of the definition. Assumes
 -- nothing.
-use Rattle.std.proofs.Common.{◌≡◌, ℕ, ◌-◌, ◌*◌, ◌/◌, ◌^◌, ◌<◌, ◌≤◌, false, List, sym, refl, ap, ◌∙◌, ap₂, mul-le-mul, arith, eq-eqb, ne_eqb}
+use Rattle.std.proofs.Common.{◌≡◌, ℕ, ◌+◌, ◌-◌, ◌*◌, ◌/◌, ◌^◌, ◌<◌, ◌≤◌, false, List, sym, refl, ap, ◌∙◌, ap₂, mul-le-mul, arith, eq-eqb, ne_eqb, le_antisymm}
 use Rattle.ieee_sqrt.specs.Sqrt.{isqrt}
+use Rattle.ieee_sqrt.specs.IsqrtLaws.{IsRoot, isqrt_is, root_at_least}
 use Rattle.rxing_result_point.specs.declared.PointU.{PointU}
 use Rattle.detector_walks.specs.declared.Width.{Width}
 use Rattle.detector_ellipse.specs.Ellipse.{longest, shortest, semi_major, semi_minor, linear_eccentricity, good_points, four_fifths, is_ellipse}
 use Rattle.detector_ellipse.specs.EllipseLaws.{shortest_least}
 use Rattle.detector_ellipse.proofs.is_ellipse.Goals as goal
+
+-- what std ensures of its root is that of the definition
+root_of : (n root : ℕ) → root * root ≤ n → n < (root + 1) * (root + 1) → root ≡ isqrt n
+root_of n root low high =
+    let is : IsRoot n root = record { below = low; above = high } in
+    le_antisymm (root_at_least root (isqrt_is n) low) (root_at_least (isqrt n) is (isqrt_is n).below)
 
 module _ (widths : List Width) {long short : ℕ} (most : long ≡ longest widths) (least : short ≡ shortest long widths) where
   ordered : short / 2 ≤ long / 2
@@ -21,10 +28,11 @@ module _ (widths : List Width) {long short : ℕ} (most : long ≡ longest width
   minor_is : short / 2 ≡ semi_minor widths
   minor_is = ap (λ (n : ℕ). n / 2) (least ∙ ap (λ (n : ℕ). shortest n widths) most)
 
-  module _ {root : ℕ} (is : root ≡ isqrt (long / 2 * (long / 2) - short / 2 * (short / 2))) where
+  module _ {root : ℕ} (low : root * root ≤ long / 2 * (long / 2) - short / 2 * (short / 2))
+      (high : long / 2 * (long / 2) - short / 2 * (short / 2) < (root + 1) * (root + 1)) where
     root_is : root ≡ linear_eccentricity widths
     unfolding linear_eccentricity
-    root_is = is ∙ ap₂ (λ (a b : ℕ). isqrt (a * a - b * b)) major_is minor_is
+    root_is = root_of _ root low high ∙ ap₂ (λ (a b : ℕ). isqrt (a * a - b * b)) major_is minor_is
 
     circle : (center : PointU) → root ≡ 0 → false ≡ is_ellipse center widths
     unfolding is_ellipse

@@ -1,6 +1,5 @@
 -- `detector_ellipse::widths_about` meets its contract.
 use Rattle.std.proofs.Common.{◌≡◌, ℕ, suc, ◌+◌, ◌-◌, ◌*◌, ◌<◌, ◌≤◌, List, [], ◌∷◌, ◌++◌, length, take, set, ap, ◌∙◌, add-one, arith, length-set, take_all, take-suc-set, rules}
-use lib.Ieee.{Float}
 use Rattle.reads.specs.RunsClauses.{Ran}
 use Rattle.reads.proofs.RunsLaws.{ran_done, resumes_start, resumes_step, resumes_end}
 use Rattle.bit_matrix.specs.declared.Shape.{Shape}
@@ -13,31 +12,30 @@ use Rattle.detector_ellipse.specs.Ellipse.{widths_from, widths_about}
 use Rattle.detector_ellipse.proofs.widths_about.Invariants.{Walking}
 use Rattle.detector_ellipse.proofs.widths_about.Goals as goal
 
-begins : {words marks : List ℕ} {shape : Shape} {center : PointU} {table : List Float} (widths : List Width) → length widths ≡ 72
-    → Lent shape words marks center table → Walking words marks shape center table marks widths 0
+begins : {words marks : List ℕ} {shape : Shape} {center : PointU} (widths : List Width) → length widths ≡ 72
+    → Lent shape words marks center → Walking words marks shape center marks widths 0
 unfolding widths_about
-begins widths all lent = record { few = omega arith; all = all; lent = lent; resumes = resumes_start }
+begins widths all lent = record { all = all; lent = lent; resumes = resumes_start }
 
-module _ {words marks₀ marks : List ℕ} {shape : Shape} {center : PointU} {table : List Float} {widths : List Width} {i : ℕ}
-    (walking : Walking words marks₀ shape center table marks widths i) where
+module _ {words marks₀ marks : List ℕ} {shape : Shape} {center : PointU} {widths : List Width} {i : ℕ}
+    (walking : Walking words marks₀ shape center marks widths i) where
   onward : {w : Width} {marks' : List ℕ} → i < 72 → Ran (find_width_at_degree shape center (5 * i)) words marks w marks' → length marks' ≡ length marks
-      → Walking words marks₀ shape center table marks' (set widths i w) (i + 1)
+      → Walking words marks₀ shape center marks' (set widths i w) (i + 1)
   unfolding widths_from
   onward {w} h ran kept =
       let one : 72 - i ≡ suc (72 - (i + 1)) = omega arith in
       let front : take (i + 1) (set widths i w) ≡ take i widths ++ w ∷ [] =
       ap (λ (k : ℕ). take k (set widths i w)) (add-one i) ∙ take-suc-set widths i w (omega (arith, walking.all)) in
       record {
-        few = omega arith;
         all = length-set widths i w ∙ walking.all;
         lent = lent_on walking.lent kept;
         resumes = rw front (resumes_step _ ran (rw one at walking.resumes));
       }
 
-  over : 72 ≤ i → Ran (widths_about shape center) words marks₀ widths marks
+  over : 72 ≤ i → i ≤ 72 → Ran (widths_about shape center) words marks₀ widths marks
   unfolding widths_from
-  over h =
-      let none : 72 - i ≡ 0 = omega (arith, walking.few) in
+  over low high =
+      let none : 72 - i ≡ 0 = omega arith in
       let whole : take i widths ≡ widths = take_all i widths (omega (arith, walking.all)) in
       resumes_end (ran_done widths) (rw (none, whole) at walking.resumes)
 
@@ -48,4 +46,4 @@ pub loop-i-preserved : goal.loop-i-preserved
 loop-i-preserved c = search (onward, rules)
 
 pub returns : goal.returns
-returns c = search over
+returns c = search (over, rules)
