@@ -1,128 +1,59 @@
--- A coordinate of the candidates as a list of numbers, and a turn of each sum over it. Assumes nothing.
-use Prim.Native.Nat.{ℕ, ◌+◌, ◌*◌, ◌^◌, ◌≤◌, ◌<◌}
-use native.Mathlib.Numerals.{add-one}
-use native.Mathlib.Omega.{arith}
-use mathlib.Core.Path.{◌≡◌, refl, sym, ap, ap₂, ◌∙◌}
-use mathlib.Core.List.{List, []}
-use lib.ListN.{length, get_or, drop, length-map, get_or-map, drop_of_length-le}
-use lib.Seq.{drop-cons}
-use lib.Ieee.{Float, binary64, of_bits, div, to_unsigned}
+-- A coordinate of the candidates as a list of numbers: its sum, its squares, its mean and its deviation. Assumes nothing.
+use Rattle.std.specs.Prelude.{ℕ, ◌+◌, ◌*◌, ◌^◌, ◌≤◌, ◌<◌, List, [], ◌∷◌, ◌≡◌, refl, length, get_or, sum, fold, Float}
+use Rattle.std.proofs.Common.{arith, sym, ap, ap₂, ◌∙◌}
+use Rattle.std.proofs.lemmas.List.{length-map}
+use Rattle.std.proofs.lemmas.List.Sums.{sum_by-cons}
+use Rattle.std.specs.Float.{binary64}
+use Rattle.std.specs.Float.Ieee.{of_bits, div, to_unsigned}
 use Rattle.ieee_sqrt.specs.Sqrt.{sqrt}
-use Rattle.records.specs.Records.{Record, rows}
-use Rattle.records.specs.RecordsLaws.{length_rows, get_row, get_word, each_at}
-use Rattle.detector_variances.specs.VariancesClauses.{Small}
-use Rattle.reads.specs.Total.{total}
 use Rattle.ieee.specs.Whole.{real64}
-use Rattle.detector_kept.specs.Spread.{fields_at, mean, with_square, squares, deviation, spread}
-use Rattle.detector_kept.specs.KeptClauses.{Candidates}
-use Rattle.detector_kept.specs.declared.Spread.{Spread}
+use Rattle.reads.specs.Total.{total}
+use Rattle.records.specs.Records.{Record}
+use Rattle.records.specs.RecordsClauses.{Each}
+use Rattle.detector_variances.specs.VariancesClauses.{Small}
+use Rattle.detector_kept.specs.Spread.{fields_at, mean, with_square, squares, deviation, axis}
+use Rattle.detector_kept.specs.declared.Axis.{Axis}
 
-module _ (n : ℕ) (l : List ℕ) (k : ℕ) where
-  pub column_length : length (fields_at k (rows n l)) ≡ n
-  column_length = length-map (rows n l) (λ (r : Record). get_or r k 0) ∙ length_rows n l
-
-  pub column_word : (i : ℕ) → i < n → k < 40 → get_or (fields_at k (rows n l)) i 0 ≡ get_or l (40 * i + k) 0
-  column_word i h h' =
-      get_or-map (λ (r : Record). get_or r k 0) (rows n l) i [] ∙ ap (λ (r : Record). get_or r k 0) (get_row n l i h) ∙ get_word l i k h'
-
-  pub column_small : (i : ℕ) → i < n → k < 40 → Candidates n l → get_or l (40 * i + k) 0 < 65536
-  column_small i h h' held =
-      let at : get_or (get_or (rows n l) i []) k 0 ≡ get_or l (40 * i + k) 0 = ap (λ (r : Record). get_or r k 0) (get_row n l i h) ∙ get_word l i k h' in
-      omega (arith, each_at Small [] (rows n l) i held.small (omega (arith, length_rows n l)) k)
-
-module _ (xs : List ℕ) (i : ℕ) (h : i < length xs) where
-  pub total_turn : (s : ℕ) → s + get_or xs i 0 + total (drop (i + 1) xs) ≡ s + total (drop i xs)
-  unfolding total
-  total_turn s = rw (add-one, drop-cons xs i 0 h) (omega arith)
-
-  pub squares_turn : (m acc : Float) → squares m (with_square m acc (get_or xs i 0)) (drop (i + 1) xs) ≡ squares m acc (drop i xs)
-  unfolding squares
-  squares_turn m acc = rw (add-one, drop-cons xs i 0 h)
-
-pub total_end : (xs : List ℕ) (i s : ℕ) → length xs ≤ i → s + total (drop i xs) ≡ s
+sum_is_total : (xs : List ℕ) → sum xs ≡ total xs
 unfolding total
-total_end xs i s h = rw (drop_of_length-le xs {i = i} h) (omega arith)
+sum_is_total [] = refl
+sum_is_total (x ∷ xs) = sum_by-cons (λ (n : ℕ). n) x xs ∙ ap (λ (n : ℕ). x + n) (sum_is_total xs)
 
-pub squares_end : (xs : List ℕ) (i : ℕ) (m acc : Float) → length xs ≤ i → squares m acc (drop i xs) ≡ acc
+sum_small : (k : ℕ) (rs : List Record) → Each Small rs → sum (fields_at k rs) ≤ 65535 * length rs
+unfolding Each
+sum_small k [] each = omega arith
+sum_small k (r ∷ rs) each = omega (arith, sum_by-cons (λ (n : ℕ). n) (get_or r k 0) (fields_at k rs), each.0 k, sum_small k rs each.1)
+
+pub sum_fits : (k : ℕ) (rs : List Record) → length rs ≤ 1024 → Each Small rs → sum (fields_at k rs) < 2 ^ 32
+sum_fits k rs few each = omega (arith, sum_small k rs each)
+
+fold_squares : (k : ℕ) (m acc : Float) (rs : List Record) → fold (λ (t : Float) (r : Record). with_square m t (get_or r k 0)) acc rs ≡ squares m acc (fields_at k rs)
 unfolding squares
-squares_end xs i m acc h = rw (drop_of_length-le xs {i = i} h)
+fold_squares k m acc [] = refl
+fold_squares k m acc (r ∷ rs) = fold_squares k m (with_square m acc (get_or r k 0)) rs
 
--- ---- the loops, after i candidates
+-- the mean and the deviation, as `axis_of` computes them
+module _ (k : ℕ) (rs : List Record) where
+  abbrev xs : List ℕ
+  xs = fields_at k rs
 
-pub record Summed (l : List ℕ) (n k s i : ℕ) : Type 0 where
-  pub few : i ≤ n
-  pub bound : s ≤ 65535 * i
-  pub left : s + total (drop i (fields_at k (rows n l))) ≡ total (fields_at k (rows n l))
+  counted : length rs ≡ length xs
+  counted = sym (length-map rs (λ (r : Record). get_or r k 0))
 
-pub sum_begins : {l : List ℕ} {n k : ℕ} → Summed l n k 0 0
-sum_begins = record { few = omega arith; bound = omega arith; left = omega arith }
-
-module _ {l : List ℕ} {n k s i : ℕ} (summed : Summed l n k s i) (h : i < n) (h' : k < 40) (held : Candidates n l) where
-  pub sum_fits : s + get_or l (40 * i + k) 0 < 2 ^ 32
-  sum_fits = omega (arith, summed.bound, held.few, column_small n l k i h h' held)
-
-  pub sum_onward : Summed l n k (s + get_or l (40 * i + k) 0) (i + 1)
-  sum_onward = record {
-    few = omega arith;
-    bound = omega (arith, summed.bound, column_small n l k i h h' held);
-    left =
-        ap (λ (x : ℕ). s + x + total (drop (i + 1) (fields_at k (rows n l)))) (sym (column_word n l k i h h'))
-        ∙ total_turn (fields_at k (rows n l)) i (omega (arith, column_length n l k)) s
-        ∙ summed.left;
-  }
-
-pub sum_over : {l : List ℕ} {n k s i : ℕ} → Summed l n k s i → n ≤ i → s ≡ total (fields_at k (rows n l))
-sum_over {l} {n} {k} {s} {i} summed h = sym (total_end (fields_at k (rows n l)) i s (omega (arith, column_length n l k))) ∙ summed.left
-
-pub record Squared (l : List ℕ) (n k : ℕ) (m : Float) (acc : Float) (i : ℕ) : Type 0 where
-  pub few : i ≤ n
-  pub left : squares m acc (drop i (fields_at k (rows n l))) ≡ squares m (of_bits binary64 0) (fields_at k (rows n l))
-
-pub squares_begin : {l : List ℕ} {n k : ℕ} {m : Float} → Squared l n k m (of_bits binary64 0) 0
-squares_begin = record { few = omega arith; left = refl }
-
-pub squares_onward : {l : List ℕ} {n k : ℕ} {m acc : Float} {i : ℕ} → Squared l n k m acc i → i < n → k < 40
-    → Squared l n k m (with_square m acc (get_or l (40 * i + k) 0)) (i + 1)
-squares_onward {l} {n} {k} {m} {acc} {i} squared h h' = record {
-  few = omega arith;
-  left =
-      ap (λ (x : ℕ). squares m (with_square m acc x) (drop (i + 1) (fields_at k (rows n l)))) (sym (column_word n l k i h h'))
-      ∙ squares_turn (fields_at k (rows n l)) i (omega (arith, column_length n l k)) m acc
-      ∙ squared.left;
-}
-
-pub squares_over : {l : List ℕ} {n k : ℕ} {m acc : Float} {i : ℕ} → Squared l n k m acc i → n ≤ i → acc ≡ squares m (of_bits binary64 0) (fields_at k (rows n l))
-squares_over {l} {n} {k} {m} {acc} {i} squared h = sym (squares_end (fields_at k (rows n l)) i m acc (omega (arith, column_length n l k))) ∙ squared.left
-
--- ---- the mean and the deviation, as `axis_of` computes them
-
-module _ (l : List ℕ) (n k t : ℕ) (summed : t ≡ total (fields_at k (rows n l))) where
-  mean_is : div binary64 (real64 t) (real64 n) ≡ mean (fields_at k (rows n l))
+  mean_is : (t : ℕ) → t ≡ sum xs → div binary64 (real64 t) (real64 (length rs)) ≡ mean xs
   unfolding mean
-  mean_is = ap₂ (λ (a b : ℕ). div binary64 (real64 a) (real64 b)) summed (sym (column_length n l k))
+  mean_is t summed = ap₂ (λ (a b : ℕ). div binary64 (real64 a) (real64 b)) (summed ∙ sum_is_total xs) counted
 
-  pub axis_mean : (r : ℕ) → r ≡ to_unsigned 32 (div binary64 (real64 t) (real64 n)) → r ≡ to_unsigned 32 (mean (fields_at k (rows n l)))
-  axis_mean r e = e ∙ ap (to_unsigned 32) mean_is
-
-  pub axis_dev : (s d : Float) (r : ℕ) → s ≡ squares (div binary64 (real64 t) (real64 n)) (of_bits binary64 0) (fields_at k (rows n l))
-      → d ≡ sqrt binary64 (div binary64 s (real64 n)) → r ≡ to_unsigned 32 d → r ≡ to_unsigned 32 (deviation (fields_at k (rows n l)))
-  unfolding deviation
-  axis_dev s d r es ed er =
-      let whole : s ≡ squares (mean (fields_at k (rows n l))) (of_bits binary64 0) (fields_at k (rows n l)) =
-      es ∙ ap (λ (m : Float). squares m (of_bits binary64 0) (fields_at k (rows n l))) mean_is
+  pub axis_is : (t : ℕ) (s d : Float) (dev m : ℕ) → t ≡ sum xs
+      → s ≡ fold (λ (a : Float) (r : Record). with_square (div binary64 (real64 t) (real64 (length rs))) a (get_or r k 0)) (of_bits binary64 0) rs
+      → d ≡ sqrt binary64 (div binary64 s (real64 (length rs))) → dev ≡ to_unsigned 32 d → m ≡ to_unsigned 32 (div binary64 (real64 t) (real64 (length rs)))
+      → ◌≡◌ {A = Axis} (record { dev = dev; mean = m }) (axis xs)
+  unfolding axis deviation
+  axis_is t s d dev m summed squared root dev_is m_is =
+      let about : Float = div binary64 (real64 t) (real64 (length rs)) in
+      let whole : s ≡ squares (mean xs) (of_bits binary64 0) xs =
+      squared ∙ fold_squares k about (of_bits binary64 0) rs ∙ ap (λ (a : Float). squares a (of_bits binary64 0) xs) (mean_is t summed)
       in
-      er ∙ ap (to_unsigned 32) (ed ∙ ap₂ (λ (a : Float) (b : ℕ). sqrt binary64 (div binary64 a (real64 b))) whole (sym (column_length n l k)))
-
-pub spread_is : (rs : List Record) (a b d e : ℕ) → a ≡ to_unsigned 32 (deviation (fields_at 0 rs)) → b ≡ to_unsigned 32 (deviation (fields_at 1 rs))
-    → d ≡ to_unsigned 32 (mean (fields_at 0 rs)) → e ≡ to_unsigned 32 (mean (fields_at 1 rs))
-    → ◌≡◌ {A = Spread} (record { dev_x = a; dev_y = b; mean_x = d; mean_y = e }) (spread rs)
-unfolding spread
-spread_is rs a b d e ea eb ed ee =
-    ap₂ (λ (x y : ℕ). record { dev_x = x; dev_y = y; mean_x = d; mean_y = e }) ea eb
-    ∙ ap₂ (λ (x y : ℕ). record {
-      dev_x = to_unsigned 32 (deviation (fields_at 0 rs));
-      dev_y = to_unsigned 32
-          (deviation (fields_at 1 rs));
-      mean_x = x;
-      mean_y = y;
-    }) ed ee
+      ap₂ (λ (a b : ℕ). record { dev = a; mean = b })
+      (dev_is ∙ ap (to_unsigned 32) (root ∙ ap₂ (λ (a : Float) (b : ℕ). sqrt binary64 (div binary64 a (real64 b))) whole counted))
+      (m_is ∙ ap (to_unsigned 32) (mean_is t summed))

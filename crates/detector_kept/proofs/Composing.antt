@@ -1,9 +1,5 @@
 -- The steps of `keep_and_rank`, one after the other. Assumes nothing.
-use Prim.Native.Nat.{ℕ, ◌+◌, ◌-◌, ◌*◌, ◌≤◌}
-use native.Mathlib.Omega.{arith}
-use mathlib.Core.Path.{◌≡◌, sym, ap, ap₂, ◌∙◌}
-use mathlib.Core.List.{List, ◌++◌, map, append_assoc}
-use lib.ListN.{length, take, drop, replicate}
+use Rattle.std.proofs.Common.{ℕ, ◌+◌, ◌-◌, ◌*◌, ◌≤◌, arith, ◌≡◌, sym, ap, ap₂, ◌∙◌, List, ◌++◌, map, append_assoc, length, take, drop, replicate}
 use Rattle.records.specs.Records.{Record, rows, flat, laid_out}
 use Rattle.records.specs.RecordsClauses.{Became, Each}
 use Rattle.records.specs.RecordsLaws.{length_rows, take_flat, rows_front, drop_later, each_filter, each_map, each_both, rows_whole}

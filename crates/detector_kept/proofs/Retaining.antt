@@ -1,37 +1,11 @@
 -- The test and the loop of `retain_near`. Assumes nothing.
-use Prim.Native.Nat.{ℕ, ◌+◌, ◌-◌, ◌*◌, ◌≤◌, ◌<◌}
-use native.Mathlib.Nat.{add-zero}
-use native.Mathlib.Numerals.{add-one}
-use native.Mathlib.Omega.{arith}
-use mathlib.Core.Bool.{Bool, true, false, cond, ◌&&◌}
-use mathlib.Core.Path.{◌≡◌, refl, sym, ap, ◌∙◌}
-use mathlib.Core.List.{List, [], ◌∷◌, ◌++◌, append-nil}
-use lib.Dec.{leb}
-use lib.ListN.{length, get_or, take, drop, set}
-use lib.Seq.{take-suc, take-suc-set, drop-set-lt, get_or-drop, drop-drop, take_all, length-take-le}
+use Rattle.std.proofs.Common.{ℕ, ◌+◌, ◌*◌, ◌≤◌, ◌<◌, add-zero, add-one, arith, Bool, true, false, cond, ◌≡◌, refl, sym, ap, ◌∙◌, List, [], ◌∷◌, ◌++◌, append-nil, length, get_or, take, drop, set, take-suc, take-suc-set, drop-set-lt, get_or-drop, drop-drop, take_all, length-take-le}
 use Rattle.records.specs.Records.{Record, rows, filter}
 use Rattle.records.specs.RecordsClauses.{get, put, Became}
-use Rattle.records.specs.RecordsLaws.{Beside, length_rows, get_row, length_get, get_word, take_rows, replaced, beside_start, beside_then, beside_room}
-use Rattle.detector_kept.specs.Retain.{within, near, retain}
+use Rattle.records.specs.RecordsLaws.{Beside, length_rows, get_row, length_get, take_rows, replaced, beside_start, beside_then, beside_room}
+use Rattle.detector_kept.specs.Retain.{near, retain}
 use Rattle.detector_kept.specs.KeptClauses.{Retained}
 use Rattle.detector_kept.specs.declared.Spread.{Spread}
-
--- ---- the test
-
-pub within_below : (d m x : ℕ) → x < m → leb (m - x) d ≡ within d m x
-within_below d m x h =
-    let e : m - x ≡ (x - m) + (m - x) = omega arith in
-    ap (λ (n : ℕ). leb n d) e
-
-pub within_above : (d m x : ℕ) → m ≤ x → leb (x - m) d ≡ within d m x
-within_above d m x h =
-    let e : x - m ≡ (x - m) + (m - x) = omega arith in
-    ap (λ (n : ℕ). leb n d) e
-
-pub near_both : (s : Spread) (l : List ℕ) (i : ℕ) {x y : Bool} → x ≡ within s.dev_x s.mean_x (get_or l (40 * i + 0) 0)
-    → y ≡ within s.dev_y s.mean_y (get_or l (40 * i + 1) 0) → (x && y) ≡ near s (get l i)
-unfolding near
-near_both s l i x_is y_is = rw (x_is, y_is, get_word l i 0 (omega arith), get_word l i 1 (omega arith))
 
 -- ---- a filter of one element more
 
@@ -93,17 +67,18 @@ module _ {found : ℕ} {s : Spread} {l₀ l : List ℕ} {kept i : ℕ} (so_far :
     inside : i < length (rows found l₀)
     inside = omega (arith, length_rows found l₀)
 
-    pub retained_passed : (b : Bool) → b ≡ near s r → b ≡ false → Retaining found s l₀ l kept (i + 1)
-    retained_passed b is e = record {
+    pub retained_passed : (fields : Record) → fields ≡ r → near s fields ≡ false → Retaining found s l₀ l kept (i + 1)
+    retained_passed fields is e = record {
       few = omega arith;
       fewer = omega (arith, so_far.fewer);
       beside = so_far.beside;
-      front = so_far.front ∙ filter_same (near s) (rows found l₀) i r [] inside unmoved (sym is ∙ e);
+      front = so_far.front ∙ filter_same (near s) (rows found l₀) i r [] inside unmoved (ap (near s) (sym is) ∙ e);
       back = drop_more (rows found l) i ∙ ap (drop 1) so_far.back ∙ sym (drop_more (rows found l₀) i);
     }
 
-    pub taken : (b : Bool) → b ≡ near s r → b ≡ true → (l' : List ℕ) → l' ≡ put l kept r → length l' ≡ length l → Retaining found s l₀ l' (kept + 1) (i + 1)
-    taken b is e l' stored sized = record {
+    pub taken : (fields : Record) → fields ≡ r → near s fields ≡ true → (l' : List ℕ) → l' ≡ put l kept fields → length l' ≡ length l
+        → Retaining found s l₀ l' (kept + 1) (i + 1)
+    taken fields is e l' stored sized = record {
       few = omega arith;
       fewer = omega (arith, so_far.fewer);
       beside = beside_then so_far.beside now sized;
@@ -112,7 +87,7 @@ module _ {found : ℕ} {s : Spread} {l₀ l : List ℕ} {kept i : ℕ} (so_far :
           ∙ ap (λ (k : ℕ). take k (set (rows found l) kept r)) (add-one kept)
           ∙ take-suc-set (rows found l) kept r (omega (arith, length_rows found l, so_far.fewer))
           ∙ ap (λ (rs : List Record). rs ++ (r ∷ [])) so_far.front
-          ∙ filter_more (near s) (rows found l₀) i r [] inside unmoved (sym is ∙ e);
+          ∙ filter_more (near s) (rows found l₀) i r [] inside unmoved (ap (near s) (sym is) ∙ e);
       back =
           ap (drop (i + 1)) now.records
           ∙ drop-set-lt (i + 1) (rows found l) kept r (omega (arith, so_far.fewer))
@@ -120,7 +95,7 @@ module _ {found : ℕ} {s : Spread} {l₀ l : List ℕ} {kept i : ℕ} (so_far :
     }
       where
         now : Became found l (set (rows found l) kept r) l'
-        now = replaced found l kept r l' stored (omega (arith, so_far.fewer)) (beside_room so_far.beside) whole
+        now = replaced found l kept r l' (stored ∙ ap (put l kept) is) (omega (arith, so_far.fewer)) (beside_room so_far.beside) whole
 
   pub over : found ≤ i → Retained found s l₀ kept l
   over h = record {

@@ -9,7 +9,7 @@ abbrev pub within : ℕ → ℕ → ℕ → Bool
 within d m x = leb ((x - m) + (m - x)) d
 
 unfoldable pub near : Spread → Record → Bool
-near s r = within s.dev_x s.mean_x (get_or r field.center_x 0) && within s.dev_y s.mean_y (get_or r field.center_y 0)
+near s r = within s.x.dev s.x.mean (get_or r field.center_x 0) && within s.y.dev s.y.mean (get_or r field.center_y 0)
 
 abbrev pub retain : Spread → List Record → List Record
 retain s rs = filter (near s) rs

@@ -8,6 +8,7 @@ use Rattle.ieee_sqrt.specs.Sqrt.{sqrt}
 use Rattle.reads.specs.Total.{total}
 use Rattle.records.specs.Fields as field
 use Rattle.records.specs.Records.{Record}
+use Rattle.detector_kept.specs.declared.Axis.{Axis}
 use Rattle.detector_kept.specs.declared.Spread.{Spread}
 
 -- one field of each record
@@ -29,11 +30,10 @@ squares m acc (x ∷ xs) = squares m (with_square m acc x) xs
 unfoldable pub deviation : List ℕ → Float
 deviation xs = sqrt binary64 (div binary64 (squares (mean xs) (of_bits binary64 0) xs) (real64 (length xs)))
 
--- both truncated, for x and for y
+-- both truncated
+unfoldable pub axis : List ℕ → Axis
+axis xs = record { dev = to_unsigned 32 (deviation xs); mean = to_unsigned 32 (mean xs) }
+
+-- for x and for y
 unfoldable pub spread : List Record → Spread
-spread rs = record {
-  dev_x = to_unsigned 32 (deviation (fields_at field.center_x rs));
-  dev_y = to_unsigned 32 (deviation (fields_at field.center_y rs));
-  mean_x = to_unsigned 32 (mean (fields_at field.center_x rs));
-  mean_y = to_unsigned 32 (mean (fields_at field.center_y rs));
-}
+spread rs = record { x = axis (fields_at field.center_x rs); y = axis (fields_at field.center_y rs) }

@@ -2,69 +2,77 @@
 // them. The record buffer stands for its `Vec<Circle>`.
 #![tactic(auto)]
 
-ghost use Rattle.std.specs.Prelude.{◌≡◌, ◌+◌, ◌*◌, ◌≤◌, ◌<◌, length};
+ghost use Rattle.std.specs.Prelude.{◌≡◌, ◌*◌, ◌^◌, ◌≤◌, ◌<◌, length, sum, fold, slice_index};
 ghost use Rattle.records.specs.Records.{rows};
-ghost use Rattle.records.specs.RecordsClauses.{get};
-ghost use Rattle.reads.specs.Total.{total};
-ghost use Rattle.detector_kept.specs.Spread.{fields_at, squares, mean, deviation, spread};
+ghost use Rattle.records.specs.RecordsClauses.{Each};
+ghost use Rattle.detector_variances.specs.VariancesClauses.{Small};
+ghost use Rattle.detector_kept.specs.Spread.{fields_at, with_square, axis, spread};
 ghost use Rattle.detector_kept.specs.Retain.{within, near};
 ghost use Rattle.detector_kept.specs.KeptClauses.{Retained, Candidates, KeptAndRanked};
 ghost use Rattle.std.specs.Float.Ieee as Ieee;
 
-// How far the centres go, and about which mean: both truncated.
+// How far one coordinate of the centres goes, and about which mean: both truncated.
+#[derive(Clone, Copy)]
+pub struct Axis {
+    pub dev: u32,
+    pub mean: u32,
+}
+
+// The same for both coordinates.
 #[derive(Clone, Copy)]
 pub struct Spread {
-    pub dev_x: u32,
-    pub dev_y: u32,
-    pub mean_x: u32,
-    pub mean_y: u32,
+    pub x: Axis,
+    pub y: Axis,
 }
 
-// The same for one coordinate.
-#[derive(Clone, Copy)]
-struct Axis {
-    dev: u32,
-    mean: u32,
-}
-
-// The sum of a coordinate of the centre over the candidates: `axis` is its place in a record.
-fn total_of(records: &[u32], found: usize, axis: usize) -> u32
-    requires { Candidates found records.now × (axis < 40) }
-    ensures { result ≡ total (fields_at axis (rows found records.now)) }
-{
-    let mut sum = 0u32;
-    let mut i = 0usize;
-    while i < found {
-        sum = sum + records[40 * i + axis];
-        i += 1;
+impl Axis {
+    // x and the mean are at most dev apart.
+    fn is_within(self, x: u32) -> bool
+        ensures { result ≡ within self.dev self.mean x }
+    {
+        x.abs_diff(self.mean) <= self.dev
     }
-    sum
+}
+
+impl Spread {
+    // Both coordinates of the record's centre are near the mean.
+    fn is_near(self, record: &[u32; 40]) -> bool
+        ensures { result ≡ near self record.now }
+    {
+        let near_x = self.x.is_within(record[records::CENTER_X]);
+        let near_y = self.y.is_within(record[records::CENTER_Y]);
+        near_x & near_y
+    }
+}
+
+// The sum of a coordinate of the centre over the candidates: `field` is its place in a record.
+fn total_of(candidates: &[[u32; 40]], field: usize) -> u32
+    requires { (field < 40) × (sum (fields_at field candidates.now) < 2 ^ 32) }
+    ensures { result ≡ sum (fields_at field candidates.now) }
+{
+    candidates.iter().map(|record| record[field]).sum()
 }
 
 // The squares of the distances from the mean, added in the candidates' order.
-fn squares_of(records: &[u32], found: usize, axis: usize, mean: f64) -> f64
-    requires { Candidates found records.now × (axis < 40) }
-    ensures { result ≡ squares mean (Ieee.of_bits Ieee.binary64 0) (fields_at axis (rows found records.now)) }
+#[tactic(auto, unfolding(crate::specs::Spread::with_square))]
+fn squares_of(candidates: &[[u32; 40]], field: usize, mean: f64) -> f64
+    requires { field < 40 }
+    ensures { result ≡ fold (λ total r. with_square mean total (slice_index r field)) (Ieee.of_bits Ieee.binary64 0) candidates.now }
 {
-    let mut sum = 0.0f64;
-    let mut i = 0usize;
-    while i < found {
-        let off = (records[40 * i + axis] as f64) - mean;
-        sum = sum + off * off;
-        i += 1;
-    }
-    sum
+    candidates.iter().fold(0.0, |sum, record| {
+        let off = record[field] as f64 - mean;
+        sum + off * off
+    })
 }
 
 // The mean and the deviation of one coordinate.
-fn axis_of(records: &[u32], found: usize, axis: usize) -> Axis
-    requires { Candidates found records.now × (axis < 40) }
-    ensures { (result.dev ≡ Ieee.to_unsigned 32 (deviation (fields_at axis (rows found records.now))))
-        × (result.mean ≡ Ieee.to_unsigned 32 (mean (fields_at axis (rows found records.now)))) }
+fn axis_of(candidates: &[[u32; 40]], field: usize) -> Axis
+    requires { (length candidates.now ≤ 1024) × Each Small candidates.now × (field < 40) }
+    ensures { result ≡ axis (fields_at field candidates.now) }
 {
-    let n = (found as u32) as f64;
-    let mean = (total_of(records, found, axis) as f64) / n;
-    let dev = ieee_sqrt::sqrt_f64(squares_of(records, found, axis, mean) / n);
+    let n = (candidates.len() as u32) as f64;
+    let mean = (total_of(candidates, field) as f64) / n;
+    let dev = ieee_sqrt::sqrt_f64(squares_of(candidates, field, mean) / n);
     Axis {
         dev: ieee::saturating_f64_to_u32(dev),
         mean: ieee::saturating_f64_to_u32(mean),
@@ -76,37 +84,11 @@ pub fn calculate_center_point_std_dev(records: &[u32], found: usize) -> Spread
     requires { Candidates found records.now }
     ensures { result ≡ spread (rows found records.now) }
 {
-    let x = axis_of(records, found, records::CENTER_X);
-    let y = axis_of(records, found, records::CENTER_Y);
+    let candidates = records::front(records, found);
     Spread {
-        dev_x: x.dev,
-        dev_y: y.dev,
-        mean_x: x.mean,
-        mean_y: y.mean,
+        x: axis_of(candidates, records::CENTER_X),
+        y: axis_of(candidates, records::CENTER_Y),
     }
-}
-
-// x and the mean are at most dev apart.
-fn is_within(dev: u32, mean: u32, x: u32) -> bool
-    ensures { result ≡ within dev mean x }
-{
-    if x < mean {
-        mean - x <= dev
-    } else {
-        x - mean <= dev
-    }
-}
-
-// Both coordinates of record i's centre are near the mean.
-fn is_near(spread: Spread, records: &[u32], i: usize) -> bool
-    requires { 40 * i + 40 ≤ length records.now }
-    ensures { result ≡ near spread (get records.now i) }
-{
-    let x = records[40 * i + records::CENTER_X];
-    let y = records[40 * i + records::CENTER_Y];
-    let near_x = is_within(spread.dev_x, spread.mean_x, x);
-    let near_y = is_within(spread.dev_y, spread.mean_y, y);
-    near_x & near_y
 }
 
 // `detect`'s retain: the near records move to the front, in their order. Their number is returned.
@@ -114,13 +96,11 @@ fn retain_near(records: &mut [u32], found: usize, spread: Spread) -> usize
     requires { 40 * found ≤ length records.old }
     ensures { Retained found spread records.old result records.new }
 {
-    let mut kept = 0usize;
-    let mut i = 0usize;
-    while i < found {
-        let at = i;
-        i += 1;
-        if is_near(spread, records, at) {
-            records::copy(records, at, kept);
+    let mut kept = 0;
+    for i in 0..found {
+        let record = records::load(records, i);
+        if spread.is_near(&record) {
+            records::store(records, kept, &record);
             kept += 1;
         }
     }

@@ -2,7 +2,7 @@
 #![tactic(auto)]
 
 ghost use Rattle.std.specs.Prelude.{◌≡◌, ◌+◌, ◌*◌, ◌≤◌, ◌++◌, length, take, drop, replicate};
-ghost use Rattle.records.specs.Records.{capacity_of};
+ghost use Rattle.records.specs.Records.{capacity_of, rows};
 ghost use Rattle.records.specs.RecordsClauses.{get, put};
 
 // The places of a record's words, which C hosts read: eleven runs from ROW_RUNS on, eleven from COLUMN_RUNS on, four corners, x before y, from CORNERS on.
@@ -37,6 +37,14 @@ pub fn capacity_of(n: usize) -> usize
     ensures { result ≡ capacity_of n }
 {
     (n / 40).min(1024)
+}
+
+// The first `count` records.
+pub fn front(records: &[u32], count: usize) -> &[[u32; 40]]
+    requires { 40 * count ≤ length records.now }
+    ensures { (result.now ≡ rows count records.now) × (length result.now ≡ count) }
+{
+    records[..40 * count].as_chunks::<40>().0
 }
 
 // Record i.

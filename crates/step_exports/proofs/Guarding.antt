@@ -146,7 +146,7 @@ kept_as found n same kept = rw same at kept
 
 -- ---- results as words
 
-pub spread_words_lem : {r s : Spread} → r ≡ s → r.dev_x ∷ r.dev_y ∷ r.mean_x ∷ r.mean_y ∷ [] ≡ spread_words s
+pub spread_words_lem : {r s : Spread} → r ≡ s → r.x.dev ∷ r.y.dev ∷ r.x.mean ∷ r.y.mean ∷ [] ≡ spread_words s
 unfolding spread_words
 spread_words_lem e = ap spread_words e
 

@@ -69,7 +69,7 @@ point_in numbers k = point_by_bits (number_in numbers k) (number_in numbers (k +
 -- ---- results as words
 
 unfoldable pub spread_words : Spread → List ℕ
-spread_words s = s.dev_x ∷ s.dev_y ∷ s.mean_x ∷ s.mean_y ∷ []
+spread_words s = s.x.dev ∷ s.y.dev ∷ s.x.mean ∷ s.y.mean ∷ []
 
 unfoldable pub size_words : Size → List ℕ
 size_words s = s.width ∷ s.height ∷ []

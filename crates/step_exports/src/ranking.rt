@@ -27,7 +27,7 @@ pub extern "C" fn step_calculate_center_point_std_dev(
         return REFUSED;
     }
     let spread = detector_kept::calculate_center_point_std_dev(records, count);
-    *out = [spread.dev_x, spread.dev_y, spread.mean_x, spread.mean_y];
+    *out = [spread.x.dev, spread.y.dev, spread.x.mean, spread.y.mean];
     0
 }
 

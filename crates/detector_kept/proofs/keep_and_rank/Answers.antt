@@ -1,6 +1,6 @@
 -- `detector_kept::keep_and_rank` meets its contract: its callees' equations, put together.
 use Rattle.detector_kept.proofs.Composing.{small, rankable, composed}
-use borrow.Author.Rules.{rules}
+use Rattle.std.proofs.Common.{rules}
 use Rattle.detector_kept.proofs.keep_and_rank.Goals as goal
 
 pub set_variances-requires : goal.set_variances-requires

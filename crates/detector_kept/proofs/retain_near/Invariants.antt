@@ -1,11 +1,7 @@
 -- `detector_kept::retain_near` meets its contract. The invariant: the front holds what is retained of the records passed, and the others are
 -- unmoved.
-use Prim.Native.Nat.{◌-◌}
 use Rattle.detector_kept.proofs.Retaining.{Retaining}
 use Rattle.detector_kept.proofs.retain_near.Given as goal
 
 abbrev pub invariant-loop-i : goal.invariant-loop-i
-invariant-loop-i l = Retaining l.found l.spread l.initial.records l.records l.kept l.i
-
-abbrev pub decreases-loop-i : goal.decreases-loop-i
-decreases-loop-i l = l.found - l.i
+invariant-loop-i l = Retaining l.found l.spread l.fn.records l.records l.kept l.i
