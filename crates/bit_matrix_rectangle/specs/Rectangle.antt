@@ -1,13 +1,11 @@
 -- The enclosing rectangle of the black pixels, by pixels: docs/MANUAL.md, "The cells of a symbol". Here w and h are an image's width and height, and
 -- `black x y` tells whether the pixel at column x of row y is black. Definitions only. Assumes nothing.
-use Rattle.std.specs.Prelude.{ℕ, zero, suc, ◌+◌, ◌-◌, Bool, cond, List}
+use Rattle.std.specs.Prelude.{ℕ, zero, suc, ◌+◌, ◌-◌, Bool, cond, List, Option, Some, None}
 use Rattle.reads.specs.Runs.{value_of}
 use Rattle.bit_matrix.specs.declared.Shape.{Shape}
 use Rattle.bit_matrix.specs.Pixels.{pixel}
 use Rattle.crop_padding.specs.Below.{any_below}
 use Rattle.bit_matrix_rectangle.specs.declared.Rectangle.{Rectangle}
-use Rattle.bit_matrix_rectangle.specs.declared.Enclosing.{Enclosing}
-use Rattle.bit_matrix_rectangle.specs.declared.Enclosing.TheVariants.{Blank, Black}
 
 -- the pixels of an image, as `get` answers
 abbrev pub black_at : Shape → List ℕ → ℕ → ℕ → Bool
@@ -42,11 +40,11 @@ rectangle_of black w h =
       height = greatest_below (black_row black w) h - top + 1;
     }
 
--- `getEnclosingRectangle`: blank when no row has a black pixel
-unfoldable pub enclosing_rectangle : (ℕ → ℕ → Bool) → ℕ → ℕ → Enclosing
-enclosing_rectangle black w h = cond (any_below (black_row black w) h) (Black (rectangle_of black w h)) Blank
+-- `getEnclosingRectangle`: none when no row has a black pixel
+unfoldable pub enclosing_rectangle : (ℕ → ℕ → Bool) → ℕ → ℕ → Option Rectangle
+enclosing_rectangle black w h = cond (any_below (black_row black w) h) (Some (rectangle_of black w h)) None
 
 -- by cases on what it answers
-abbrev pub if_black : {B : Type 0} → B → (Rectangle → B) → Enclosing → B
-if_black none some Blank = none
-if_black none some (Black r) = some r
+abbrev pub if_black : {B : Type 0} → B → (Rectangle → B) → Option Rectangle → B
+if_black none some None = none
+if_black none some (Some r) = some r

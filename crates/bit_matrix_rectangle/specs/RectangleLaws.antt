@@ -1,6 +1,6 @@
 -- What holds of the enclosing rectangle: there is none exactly when no pixel is black, it lies inside the image, and it is fixed by the pixels inside.
 -- Assumes nothing.
-use Rattle.std.specs.Prelude.{ℕ, ◌≤◌, ◌<◌, Bool, ◌↔◌, ◌≡◌}
+use Rattle.std.specs.Prelude.{ℕ, ◌≤◌, ◌<◌, Bool, ◌↔◌, Some, None, ◌≡◌}
 use Rattle.std.proofs.Common.{arith, sym}
 use Rattle.std.proofs.Math.Bool.{true, false, cond}
 use Rattle.std.proofs.lemmas.Bool.{false≢true}
@@ -8,7 +8,6 @@ use Rattle.std.proofs.Math.Path.{refl, ap, subst}
 use Rattle.crop_padding.specs.Below.{any_below}
 use Rattle.crop_padding.specs.AnyLaws.{any_found, any_witness, any_same, none_holds, none_below}
 use Rattle.bit_matrix_rectangle.specs.declared.Rectangle.{Rectangle}
-use Rattle.bit_matrix_rectangle.specs.declared.Enclosing.TheVariants.{Blank, Black}
 use Rattle.bit_matrix_rectangle.specs.Rectangle.{least_below, greatest_below, black_column, black_row, rectangle_of, if_black, enclosing_rectangle}
 use Rattle.bit_matrix_rectangle.specs.RectangleClauses.{Within}
 use Rattle.bit_matrix_rectangle.specs.ExtremesLaws.{least_le, le_greatest, greatest_lt, least_same, greatest_same}
@@ -22,15 +21,15 @@ module _ (black : ℕ → ℕ → Bool) (w h : ℕ) where
   pixel_column_lem x y row set = any_found (λ i. black x i) h row set
 
   -- none exactly when no pixel is black
-  pub blank_when_white : (enclosing_rectangle black w h ≡ Blank) ↔ ((x y : ℕ) → x < w → y < h → black x y ≡ false)
+  pub blank_when_white : (enclosing_rectangle black w h ≡ None) ↔ ((x y : ℕ) → x < w → y < h → black x y ≡ false)
   unfolding enclosing_rectangle
   blank_when_white = (
     λ e x y column row. none_holds (λ i. black i y) w (none_holds (black_row black w) h (white (any_below (black_row black w) h) e) row) column,
-    λ each. ap (λ (b : Bool). cond b (Black (rectangle_of black w h)) Blank)
+    λ each. ap (λ (b : Bool). cond b (Some (rectangle_of black w h)) None)
         (none_below (black_row black w) h λ y row. none_below (λ i. black i y) w λ x column. each x y column row),
   )
     where
-      white : (b : Bool) → cond b (Black (rectangle_of black w h)) Blank ≡ Blank → b ≡ false
+      white : (b : Bool) → cond b (Some (rectangle_of black w h)) None ≡ None → b ≡ false
       white true e = absurd (false≢true (ap (if_black true (λ r. false)) e))
       white false e = refl
 
@@ -45,11 +44,11 @@ module _ (black : ℕ → ℕ → Bool) (w h : ℕ) where
       let bm : greatest_below (black_row black w) h < h = greatest_lt (black_row black w) h (omega arith) in
       record { wide = omega arith; high = omega arith; columns = omega arith; rows = omega arith }
 
-  pub rectangle_within : {r : Rectangle} → Black r ≡ enclosing_rectangle black w h → Within w h r
+  pub rectangle_within : {r : Rectangle} → Some r ≡ enclosing_rectangle black w h → Within w h r
   unfolding enclosing_rectangle
   rectangle_within {r} e = go (any_below (black_row black w) h) refl e
     where
-      go : (b : Bool) → any_below (black_row black w) h ≡ b → Black r ≡ cond b (Black (rectangle_of black w h)) Blank → Within w h r
+      go : (b : Bool) → any_below (black_row black w) h ≡ b → Some r ≡ cond b (Some (rectangle_of black w h)) None → Within w h r
       go true some same =
           let row = any_witness (black_row black w) h some in
           let pixel = any_witness (λ i. black i row.0) w row.2 in

@@ -1,11 +1,23 @@
 -- What the entries that read cells answer and leave in the lent buffers, for every input: docs/MANUAL.md, "The cells of a symbol". An accepted image is read
 -- by `read_bits`. Nothing is marked: the whole image counts as read. Definitions only. Assumes nothing.
-use Rattle.std.specs.Prelude.{ℕ, ◌||◌, List, length}
+use Rattle.std.specs.Prelude.{ℕ, ◌||◌, List, Result, Ok, Err, length}
 use Rattle.bit_matrix.specs.Shape.{shape_of}
 use Rattle.crop_sizes.specs.Sizes.{least_side, misfit}
+use Rattle.crop_sizes.specs.Refusals.{number_of}
 use Rattle.crop.specs.Crop.{file_shape, file_words, image, file_kind, refusal_of, words_refusal_of, refused_or}
 use Rattle.detector_points.specs.Orientation.{matrix_height}
 use Rattle.detector_cells.specs.Cells.{CellsRun, cells_run, read_bits}
+use Rattle.cells.specs.declared.Unread.{Unread}
+use Rattle.cells.specs.declared.Unread.TheVariants.{Refused, Blank}
+
+-- the number of what keeps cells from being read, and the answer of an entry
+abbrev pub unread_number : Unread → ℕ
+unread_number (Refused refusal) = number_of refusal
+unread_number Blank = 10
+
+abbrev pub cells_answer : Result (Unit {0}) Unread → ℕ
+cells_answer (Ok done) = 0
+cells_answer (Err unread) = unread_number unread
 
 -- the number that refuses: of an image in words, with the length of the cells; and of a file, with the lengths of the words to unpack into and of the cells
 abbrev pub words_cells_refusal : List ℕ → ℕ → ℕ → ℕ → ℕ

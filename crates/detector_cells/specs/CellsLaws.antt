@@ -1,6 +1,6 @@
 -- What holds of the cells: each is read inside the image, a row of them has 30 bits, the answer is 10 exactly when no pixel is black, and with 0 they are
 -- a function of the pixels alone. Assumes nothing.
-use Rattle.std.specs.Prelude.{ℕ, ◌^◌, ◌<◌, Bool, false, List, ◌↔◌, ◌≡◌}
+use Rattle.std.specs.Prelude.{ℕ, ◌^◌, ◌<◌, Bool, false, List, ◌↔◌, Option, Some, None, ◌≡◌}
 use Rattle.std.proofs.Common.{arith, sym, ◌∙◌}
 use Rattle.std.proofs.Math.Path.{refl, ap}
 use Rattle.bit_matrix.specs.declared.Shape.{Shape}
@@ -8,8 +8,6 @@ use Rattle.crop_padding.specs.NumberLaws.{number_lt, number_same}
 use Rattle.crop_rows.specs.FirstsLaws.{firsts_same}
 use Rattle.detector_points.specs.Orientation.{matrix_width, matrix_height, pixel_column, pixel_row}
 use Rattle.bit_matrix_rectangle.specs.declared.Rectangle.{Rectangle}
-use Rattle.bit_matrix_rectangle.specs.declared.Enclosing.{Enclosing}
-use Rattle.bit_matrix_rectangle.specs.declared.Enclosing.TheVariants.{Blank, Black}
 use Rattle.bit_matrix_rectangle.specs.Rectangle.{black_at, if_black, enclosing_rectangle}
 use Rattle.bit_matrix_rectangle.specs.RectangleClauses.{Within}
 use Rattle.bit_matrix_rectangle.specs.RectangleLaws.{blank_when_white, rectangle_within, rectangle_same}
@@ -20,7 +18,7 @@ pub cell_inside : {w h : ℕ} (r : Rectangle) → Within w h r → (x y : ℕ) �
 cell_inside r within x y = (omega (arith, within), omega (arith, within))
 
 -- so every cell that is read
-pub read_inside : (black : ℕ → ℕ → Bool) (w h : ℕ) {r : Rectangle} → Black r ≡ enclosing_rectangle black w h → (x y : ℕ)
+pub read_inside : (black : ℕ → ℕ → Bool) (w h : ℕ) {r : Rectangle} → Some r ≡ enclosing_rectangle black w h → (x y : ℕ)
     → (pixel_column x y r.left r.width < w) × (pixel_row y r.top r.height < h)
 read_inside black w h {r} is = cell_inside r (rectangle_within black w h is)
 
@@ -29,10 +27,10 @@ pub cells_low : (black : ℕ → ℕ → Bool) (r : Rectangle) (y : ℕ) → cel
 cells_low black r y = number_lt _ matrix_width
 
 -- an image's rectangle, and what is read in it
-abbrev enclosing_of : Shape → List ℕ → Enclosing
+abbrev enclosing_of : Shape → List ℕ → Option Rectangle
 enclosing_of shape words = enclosing_rectangle (black_at shape words) shape.width shape.height
 
-abbrev read_in : Shape → List ℕ → List ℕ → Enclosing → CellsRun
+abbrev read_in : Shape → List ℕ → List ℕ → Option Rectangle → CellsRun
 read_in shape words cells = if_black (cells_run 10 cells) λ r. cells_run 0 (cells_of (black_at shape words) r)
 
 module _ (shape : Shape) (words : List ℕ) where
@@ -42,20 +40,20 @@ module _ (shape : Shape) (words : List ℕ) where
   unfolding read_bits
   ten_when_white cells =
       let none = blank_when_white (black_at shape words) shape.width shape.height in
-      (λ ten. none.0 (sym (go (enclosing_of shape words) refl ten)), λ white. ap (λ (e : Enclosing). (read_in shape words cells e).answer) (none.1 white))
+      (λ ten. none.0 (sym (go (enclosing_of shape words) refl ten)), λ white. ap (λ (e : Option Rectangle). (read_in shape words cells e).answer) (none.1 white))
     where
-      go : (e : Enclosing) → e ≡ enclosing_of shape words → (read_in shape words cells e).answer ≡ 10 → Blank ≡ enclosing_of shape words
-      go Blank is ten = is
-      go (Black r) is ten = absurd (omega arith)
+      go : (e : Option Rectangle) → e ≡ enclosing_of shape words → (read_in shape words cells e).answer ≡ 10 → None ≡ enclosing_of shape words
+      go None is ten = is
+      go (Some r) is ten = absurd (omega arith)
 
   -- with answer 0 what was lent has no part in what is read
   pub lent_without_part : (cells lent : List ℕ) → (read_bits shape words cells).answer ≡ 0 → read_bits shape words cells ≡ read_bits shape words lent
   unfolding read_bits
   lent_without_part cells lent read = go (enclosing_of shape words) read
     where
-      go : (e : Enclosing) → (read_in shape words cells e).answer ≡ 0 → read_in shape words cells e ≡ read_in shape words lent e
-      go Blank none = absurd (omega arith)
-      go (Black r) some = refl
+      go : (e : Option Rectangle) → (read_in shape words cells e).answer ≡ 0 → read_in shape words cells e ≡ read_in shape words lent e
+      go None none = absurd (omega arith)
+      go (Some r) some = refl
 
 -- two images of one shape that agree at every pixel, and the same lent for the cells: the same answer and the same cells
 module _ (shape : Shape) (words other : List ℕ)
@@ -72,6 +70,6 @@ module _ (shape : Shape) (words other : List ℕ)
       go (enclosing_of shape words) refl
       ∙ ap (read_in shape other cells) (rectangle_same (black_at shape words) (black_at shape other) shape.width shape.height agree)
     where
-      go : (e : Enclosing) → e ≡ enclosing_of shape words → read_in shape words cells e ≡ read_in shape other cells e
-      go Blank is = refl
-      go (Black r) is = ap (cells_run 0) (cells_same r (rectangle_within (black_at shape words) shape.width shape.height is))
+      go : (e : Option Rectangle) → e ≡ enclosing_of shape words → read_in shape words cells e ≡ read_in shape other cells e
+      go None is = refl
+      go (Some r) is = ap (cells_run 0) (cells_same r (rectangle_within (black_at shape words) shape.width shape.height is))

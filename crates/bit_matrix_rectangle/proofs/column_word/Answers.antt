@@ -38,7 +38,7 @@ module _ (shape : Shape) (words : List ℕ) (x : ℕ) (ok : ImageAccepted shape 
       bits = λ k h. test_zero k ∙ sym (none_below (λ y. black_at shape words (x * 64 + k) y) top λ y above. rows.above (x * 64 + k) y (omega arith) above);
     }
 
-    at_end : {word y : ℕ} → Joined shape words x bottom word y → bottom < y → ColumnWord shape words x word
+    at_end : {word y : ℕ} → Joined shape words x bottom word y → bottom + 1 ≤ y → ColumnWord shape words x word
     at_end {y = y} joined past =
         let last : y ≡ bottom + 1 = omega (arith, joined.most) in
         record {
@@ -48,7 +48,7 @@ module _ (shape : Shape) (words : List ℕ) (x : ℕ) (ok : ImageAccepted shape 
               rows.below (x * 64 + k) j (omega arith) (omega arith) row;
         }
 
-  onward : {bottom word : ℕ} (y : ℕ) → Joined shape words x bottom word y → y ≤ bottom
+  onward : {bottom word : ℕ} (y : ℕ) → Joined shape words x bottom word y → y < bottom + 1
       → Joined shape words x bottom (bit_or word (get_or words (y * shape.row_words + x) 0)) (y + 1)
   unfolding any_below
   onward {word = word} y joined row = record {
@@ -61,18 +61,6 @@ module _ (shape : Shape) (words : List ℕ) (x : ℕ) (ok : ImageAccepted shape 
 
 pub loop-y-init : goal.loop-y-init
 loop-y-init c = search begins
-
-pub overflow_mul-word : goal.overflow_mul-word
-overflow_mul-word c = omega (arith, inside c.args.shape c.args.words.now c.args.x c.requires.0 c.requires.2 c.loop-y.y (omega (arith, c.requires.1.most)))
-
-pub overflow_add-word : goal.overflow_add-word
-overflow_add-word c = omega (arith, inside c.args.shape c.args.words.now c.args.x c.requires.0 c.requires.2 c.loop-y.y (omega (arith, c.requires.1.most)))
-
-pub offset_bounds-words-y : goal.offset_bounds-words-y
-offset_bounds-words-y c = omega (arith, inside c.args.shape c.args.words.now c.args.x c.requires.0 c.requires.2 c.loop-y.y (omega (arith, c.requires.1.most)))
-
-pub bounds-words-y : goal.bounds-words-y
-bounds-words-y c = search (inside c.args.shape c.args.words.now c.args.x c.requires.0 c.requires.2 c.loop-y.y (omega (arith, c.requires.1.most)))
 
 pub loop-y-preserved : goal.loop-y-preserved
 loop-y-preserved c = search onward

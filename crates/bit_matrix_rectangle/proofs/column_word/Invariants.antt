@@ -1,5 +1,5 @@
 -- `bit_matrix_rectangle::column_word` meets its contract. The invariant: a bit tells whether its column has a black pixel in a row so far.
-use Prim.Native.Nat.{ℕ, ◌+◌, ◌*◌, ◌-◌, ◌≤◌, ◌<◌}
+use Prim.Native.Nat.{ℕ, ◌+◌, ◌*◌, ◌≤◌, ◌<◌}
 use mathlib.Core.List.{List}
 use mathlib.Core.Path.{◌≡◌}
 use Rattle.reads.specs.Bits.{test_bit}
@@ -14,6 +14,3 @@ pub record Joined (shape : Shape) (words : List ℕ) (x bottom word y : ℕ) : T
 
 abbrev pub invariant-loop-y : goal.invariant-loop-y
 invariant-loop-y l = Joined l.shape l.words l.x l.bottom l.word l.y
-
-abbrev pub decreases-loop-y : goal.decreases-loop-y
-decreases-loop-y l = l.bottom + 1 - l.y

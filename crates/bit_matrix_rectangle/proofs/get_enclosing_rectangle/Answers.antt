@@ -3,6 +3,7 @@
 use Prim.Native.Nat.{ℕ, suc, ◌+◌, ◌*◌, ◌-◌, ◌/◌, ◌%◌, ◌^◌, ◌≤◌, ◌<◌}
 use native.Mathlib.Nat.{mod-lt, div-add-mod', div-mul-le_self, div-lt_iff_lt-mul, mul-le-mul_right}
 use native.Mathlib.Omega.{arith}
+use Rattle.std.proofs.Common.{ne_of_lt}
 use mathlib.Core.Bool.{Bool, true, false, cond}
 use mathlib.Core.List.{List}
 use mathlib.Core.Path.{◌≡◌, refl, sym, ap, ◌∙◌, subst}
@@ -13,7 +14,7 @@ use Rattle.reads.proofs.BitsLaws.{test_zero}
 use Rattle.bit_matrix.specs.declared.Shape.{Shape}
 use Rattle.crop_padding.specs.Below.{any_below}
 use Rattle.crop_padding.specs.AnyLaws.{any_found, any_witness, none_below}
-use Rattle.bit_matrix_rectangle.specs.declared.Enclosing.TheVariants.{Blank, Black}
+use Rattle.std.specs.Prelude.{Some, None}
 use Rattle.bit_matrix_rectangle.specs.Rectangle.{black_at, least_below, greatest_below, black_column, black_row, rectangle_of, enclosing_rectangle}
 use Rattle.bit_matrix_rectangle.specs.RectangleClauses.{ImageAccepted, Rows, is_set}
 use Rattle.bit_matrix_rectangle.specs.ExtremesLaws.{least_before, greatest_after, greatest_lt}
@@ -66,11 +67,11 @@ module _ (shape : Shape) (words : List ℕ) (ok : ImageAccepted shape words) whe
     before : (i : ℕ) → i < first → get_or words i 0 ≡ 0
     before i h = clear_none words i (least_before (is_set words) (length words) (subst (λ (n : ℕ). i < n) is h))
 
-    blank : first ≡ length words → Blank ≡ enclosing_rectangle black shape.width shape.height
+    blank : first ≡ length words → None ≡ enclosing_rectangle black shape.width shape.height
     unfolding enclosing_rectangle
     blank all =
         sym
-        (ap (λ (b : Bool). cond b (Black (rectangle_of black shape.width shape.height)) Blank)
+        (ap (λ (b : Bool). cond b (Some (rectangle_of black shape.width shape.height)) None)
         (none_below (black_row black shape.width) shape.height λ y row.
         row_white y λ q column. before _ (omega (arith, ok.stored, digits_lt {r = q} {c = shape.row_words} row column))))
 
@@ -139,7 +140,7 @@ module _ (shape : Shape) (words : List ℕ) (ok : ImageAccepted shape words) whe
           omega (arith, right_is, greatest_lt (black_column black shape.height) shape.width (omega (arith, ok.limits.width_least))),
         )
 
-        enclosed : Black (record {
+        enclosed : Some (record {
           left = l;
           top = first / shape.row_words;
           width = r - l + 1;
@@ -152,23 +153,33 @@ module _ (shape : Shape) (words : List ℕ) (ok : ImageAccepted shape words) whe
             any_found (black_row black shape.width) shape.height (row_below first stored) black_row_lem in
             rw (left_is, right_is, top_is, bottom_is last_is, some_row) refl
 
--- the columns from the first to the last, once both are known
+-- the first row and the last, and then the columns from the first to the last
+rows_lem : (shape : Shape) (words : List ℕ) → ImageAccepted shape words → {first last : ℕ}
+    → (first ≡ least_below (is_set words) (length words)) × (first < length words) → ((i : ℕ) → get_or words i 0 < 2 ^ 64)
+    → last ≡ greatest_below (is_set words) (length words) → Rows shape words (first / shape.row_words) (last / shape.row_words)
+rows_lem shape words ok top fits bottom = rows_of shape words ok top.0 (ne_of_lt top.1) fits bottom
+
 columns_at : (c : After-right-right) → (c.left-left.result ≤ c.right-right.result) × (c.right-right.result < c.args.shape.width)
 columns_at c =
-    ordered c.args.shape c.args.words.now c.requires c.first_set-first.ensures c.if-first-words.false
-    (λ i. (c.shared_slice_known-1.given i).fits) c.last_set.ensures c.left-left.ensures c.right-right.ensures
+    let top = c.in_ok-top.ensures in
+    ordered c.args.shape c.args.words.now c.requires top.0 (ne_of_lt top.1) (λ i. omega (arith, c.type_inv.words i)) c.in_ok-bottom.ensures
+    c.left-left.ensures c.right-right.ensures
 
-pub returns-then-first-words : goal.returns-then-first-words
-returns-then-first-words c = search blank
+pub returns-in_err-top : goal.returns-in_err-top
+returns-in_err-top c = c.from_residual.ensures ∙ blank c.args.shape c.args.words.now c.requires (sym c.in_err-top.ensures) refl
+
+pub returns-in_err-bottom : goal.returns-in_err-bottom
+returns-in_err-bottom c =
+    c.from_residual-in_err-bottom.ensures ∙ blank c.args.shape c.args.words.now c.requires (sym c.in_err-bottom.ensures) refl
 
 pub left-left-requires : goal.left-left-requires
-left-left-requires c = search (rows_of c.args.shape c.args.words.now c.requires c.first_set-first.ensures c.if-first-words.false (λ i. (c.shared_slice_known-1.given i).fits) c.last_set.ensures)
+left-left-requires c = (c.requires, rows_lem c.args.shape c.args.words.now c.requires c.in_ok-top.ensures (λ i. omega (arith, c.type_inv.words i)) c.in_ok-bottom.ensures)
 
 pub right-right-requires : goal.right-right-requires
-right-right-requires c = search (rows_of c.args.shape c.args.words.now c.requires c.first_set-first.ensures c.if-first-words.false (λ i. (c.shared_slice_known-1.given i).fits) c.last_set.ensures)
+right-right-requires c = (c.requires, rows_lem c.args.shape c.args.words.now c.requires c.in_ok-top.ensures (λ i. omega (arith, c.type_inv.words i)) c.in_ok-bottom.ensures)
 
 pub overflow_cast-result : goal.overflow_cast-result
-overflow_cast-result c = omega (arith, rows_of c.args.shape c.args.words.now c.requires c.first_set-first.ensures c.if-first-words.false (λ i. (c.shared_slice_known-1.given i).fits) c.last_set.ensures)
+overflow_cast-result c = omega (arith, rows_lem c.args.shape c.args.words.now c.requires c.in_ok-top.ensures (λ i. omega (arith, c.type_inv.words i)) c.in_ok-bottom.ensures)
 
 pub overflow_sub-result : goal.overflow_sub-result
 overflow_sub-result c = omega (arith, columns_at c)
@@ -177,15 +188,16 @@ pub overflow_add-result : goal.overflow_add-result
 overflow_add-result c = omega (arith, columns_at c)
 
 pub overflow_sub-result-2 : goal.overflow_sub-result-2
-overflow_sub-result-2 c = omega (arith, rows_of c.args.shape c.args.words.now c.requires c.first_set-first.ensures c.if-first-words.false (λ i. (c.shared_slice_known-1.given i).fits) c.last_set.ensures)
+overflow_sub-result-2 c = omega (arith, rows_lem c.args.shape c.args.words.now c.requires c.in_ok-top.ensures (λ i. omega (arith, c.type_inv.words i)) c.in_ok-bottom.ensures)
 
 pub overflow_add-result-2 : goal.overflow_add-result-2
-overflow_add-result-2 c = omega (arith, rows_of c.args.shape c.args.words.now c.requires c.first_set-first.ensures c.if-first-words.false (λ i. (c.shared_slice_known-1.given i).fits) c.last_set.ensures)
+overflow_add-result-2 c = omega (arith, rows_lem c.args.shape c.args.words.now c.requires c.in_ok-top.ensures (λ i. omega (arith, c.type_inv.words i)) c.in_ok-bottom.ensures)
 
 pub overflow_cast-result-2 : goal.overflow_cast-result-2
-overflow_cast-result-2 c = omega (arith, rows_of c.args.shape c.args.words.now c.requires c.first_set-first.ensures c.if-first-words.false (λ i. (c.shared_slice_known-1.given i).fits) c.last_set.ensures)
+overflow_cast-result-2 c = omega (arith, rows_lem c.args.shape c.args.words.now c.requires c.in_ok-top.ensures (λ i. omega (arith, c.type_inv.words i)) c.in_ok-bottom.ensures)
 
 pub returns : goal.returns
 returns c =
-    enclosed c.args.shape c.args.words.now c.requires c.first_set-first.ensures c.if-first-words.false
-    (λ i. (c.shared_slice_known-1.given i).fits) c.last_set.ensures c.left-left.ensures c.right-right.ensures
+    let top = c.in_ok-top.ensures in
+    enclosed c.args.shape c.args.words.now c.requires top.0 (ne_of_lt top.1) (λ i. omega (arith, c.type_inv.words i)) c.in_ok-bottom.ensures
+    c.left-left.ensures c.right-right.ensures

@@ -17,7 +17,7 @@ use Rattle.bit_matrix_rectangle.proofs.left.Goals as goal
 
 module _ (shape : Shape) (words : List ℕ) where
   begins : Passed shape words 0
-  begins = record { most = omega arith; white = λ c h. absurd (omega arith) }
+  begins = record { white = λ c h. absurd (omega arith) }
 
   module _ {x : ℕ} (passed : Passed shape words x) where
     -- the columns before bit n of word x, where its bits before n are clear
@@ -33,7 +33,6 @@ module _ (shape : Shape) (words : List ℕ) where
 
     onward : {v : ℕ} → ColumnWord shape words x v → x < shape.row_words → v ≡ 0 → Passed shape words (x + 1)
     onward {v} is more none = record {
-      most = omega arith;
       white = λ c h. upto v 64 is (omega arith) (λ k l. zero_white v none k) c (omega arith);
     }
 
@@ -51,7 +50,7 @@ module _ (shape : Shape) (words : List ℕ) where
     at_end : ImageAccepted shape words → shape.row_words ≤ x → shape.width ≡ least_below (black_column (black_at shape words) shape.height) shape.width
     at_end ok past =
         least_is (black_column (black_at shape words) shape.height) shape.width shape.width (omega arith)
-        (λ c h. passed.white c (omega (arith, passed.most, ok.limits.rows))) (λ h. absurd (omega arith))
+        (λ c h. passed.white c (omega (arith, ok.limits.rows))) (λ h. absurd (omega arith))
 
 pub loop-x-init : goal.loop-x-init
 loop-x-init c = search begins

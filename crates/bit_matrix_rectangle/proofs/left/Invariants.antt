@@ -1,19 +1,12 @@
 -- `bit_matrix_rectangle::left` meets its contract. The invariant: each column of the words so far is white.
-use Prim.Native.Nat.{ℕ, ◌*◌, ◌-◌, ◌≤◌, ◌<◌}
-use mathlib.Core.Bool.{false}
-use mathlib.Core.List.{List}
-use mathlib.Core.Path.{◌≡◌}
+use Rattle.std.specs.Prelude.{ℕ, ◌*◌, ◌<◌, false, List, ◌≡◌}
 use Rattle.bit_matrix.specs.declared.Shape.{Shape}
 use Rattle.bit_matrix_rectangle.specs.Rectangle.{black_at, black_column}
 use Rattle.bit_matrix_rectangle.proofs.left.Given as goal
 
 -- the columns of the words before x are white
 pub record Passed (shape : Shape) (words : List ℕ) (x : ℕ) : Type 0 where
-  pub most : x ≤ shape.row_words
   pub white : (c : ℕ) → c < x * 64 → black_column (black_at shape words) shape.height c ≡ false
 
 abbrev pub invariant-loop-x : goal.invariant-loop-x
 invariant-loop-x l = Passed l.shape l.words l.x
-
-abbrev pub decreases-loop-x : goal.decreases-loop-x
-decreases-loop-x l = l.shape.row_words - l.x

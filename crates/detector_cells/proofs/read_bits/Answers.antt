@@ -1,23 +1,21 @@
 -- `detector_cells::read_bits` meets its contract: by cases on the enclosing rectangle.
-use Prim.Native.Nat.{ℕ}
+use Rattle.std.specs.Prelude.{ℕ, Option, Some, None}
 use mathlib.Core.List.{List}
 use mathlib.Core.Path.{◌≡◌, sym, ap, ◌∙◌}
 use Rattle.bit_matrix.specs.declared.Shape.{Shape}
 use Rattle.bit_matrix_rectangle.specs.declared.Rectangle.{Rectangle}
-use Rattle.bit_matrix_rectangle.specs.declared.Enclosing.{Enclosing}
-use Rattle.bit_matrix_rectangle.specs.declared.Enclosing.TheVariants.{Blank, Black}
 use Rattle.bit_matrix_rectangle.specs.Rectangle.{black_at, if_black, enclosing_rectangle}
 use Rattle.bit_matrix_rectangle.specs.RectangleClauses.{Within}
 use Rattle.bit_matrix_rectangle.specs.RectangleLaws.{rectangle_within}
 use Rattle.detector_cells.specs.Cells.{cells_of, cells_run, read_bits}
 use Rattle.detector_cells.proofs.read_bits.Goals as goal
 
-module _ (shape : Shape) (words cells : List ℕ) {e : Enclosing} (is : e ≡ enclosing_rectangle (black_at shape words) shape.width shape.height) where
-  blank : e ≡ Blank → cells_run 10 cells ≡ read_bits shape words cells
+module _ (shape : Shape) (words cells : List ℕ) {e : Option Rectangle} (is : e ≡ enclosing_rectangle (black_at shape words) shape.width shape.height) where
+  blank : e ≡ None → cells_run 10 cells ≡ read_bits shape words cells
   unfolding read_bits
   blank none = ap (if_black (cells_run 10 cells) λ r. cells_run 0 (cells_of (black_at shape words) r)) (sym none ∙ is)
 
-  module _ {r : Rectangle} (some : e ≡ Black r) where
+  module _ {r : Rectangle} (some : e ≡ Some r) where
     within : Within shape.width shape.height r
     within = rectangle_within (black_at shape words) shape.width shape.height (sym some ∙ is)
 

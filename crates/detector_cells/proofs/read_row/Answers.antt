@@ -68,7 +68,7 @@ overflow_mul-half c = omega (arith, half_small c.requires.0 c.args.rectangle c.r
 
 pub loop-x-init : goal.loop-x-init
 unfolding number
-loop-x-init c = (omega arith, refl)
+loop-x-init c = refl
 
 pub overflow_mul-x : goal.overflow_mul-x
 overflow_mul-x c = omega (arith, columns_small c.requires.0 c.args.rectangle c.requires.2 c.loop-x-test.true)
@@ -85,13 +85,13 @@ get-requires c = search cell_at
 pub loop-x-preserved : goal.loop-x-preserved
 loop-x-preserved c =
     let x = c.loop-x.x in
-    let is = cell_is c.requires.0 c.args.rectangle c.requires.2 x c.args.y c.least.ensures c.least-iy.ensures
+    let is = cell_is c.requires.0 c.args.rectangle c.requires.2 x c.args.y c.min.ensures c.min-iy.ensures
     c.args.words.now c.get.ensures in
     let cells : ℕ → Bool = λ i. cell (black_at c.args.shape c.args.words.now) c.args.rectangle i c.args.y in
-    (omega arith, more cells x (omega arith) c.loop-x.invariant.1 is)
+    rw c.from.ensures (more cells x (omega arith) c.loop-x.invariant is)
 
 pub returns : goal.returns
 returns c =
     let a = c.args in
     let all : c.loop-x.x ≡ 30 = omega arith in
-    c.loop-x.invariant.1 ∙ ap (number λ i. cell (black_at a.shape a.words.now) a.rectangle i a.y) all
+    c.loop-x.invariant ∙ ap (number λ i. cell (black_at a.shape a.words.now) a.rectangle i a.y) all

@@ -1,5 +1,4 @@
 -- `detector_cells::read_row` meets its contract. The invariant: the cells before x are read.
-use Prim.Native.Nat.{◌-◌, ◌≤◌}
 use mathlib.Core.Path.{◌≡◌}
 use Rattle.crop_padding.specs.Below.{number}
 use Rattle.bit_matrix_rectangle.specs.Rectangle.{black_at}
@@ -7,7 +6,4 @@ use Rattle.detector_cells.specs.Cells.{cell}
 use Rattle.detector_cells.proofs.read_row.Given as goal
 
 abbrev pub invariant-loop-x : goal.invariant-loop-x
-invariant-loop-x l = (l.x ≤ 30) × (l.cells ≡ number (λ i. cell (black_at l.shape l.words) l.rectangle i l.y) l.x)
-
-abbrev pub decreases-loop-x : goal.decreases-loop-x
-decreases-loop-x l = 30 - l.x
+invariant-loop-x l = l.cells ≡ number (λ i. cell (black_at l.shape l.words) l.rectangle i l.y) l.x

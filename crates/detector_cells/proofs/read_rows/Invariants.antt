@@ -1,5 +1,5 @@
 -- `detector_cells::read_rows` meets its contract. The invariant: the words before y are stored, and the rest is as it was.
-use Prim.Native.Nat.{ℕ, ◌-◌, ◌≤◌}
+use Prim.Native.Nat.{ℕ}
 use mathlib.Core.List.{List, ◌++◌}
 use mathlib.Core.Path.{◌≡◌}
 use lib.ListN.{length, drop}
@@ -10,12 +10,8 @@ use Rattle.detector_cells.proofs.read_rows.Given as goal
 
 -- the words before y are stored
 pub record Storing (f : ℕ → ℕ) (cells₀ cells : List ℕ) (y : ℕ) : Type 0 where
-  pub most : y ≤ 33
   pub stored : cells ≡ firsts f y ++ drop y cells₀
   pub sized : length cells ≡ length cells₀
 
 abbrev pub invariant-loop-y : goal.invariant-loop-y
 invariant-loop-y l = Storing (cell_word (black_at l.shape l.words) l.rectangle) l.initial.cells l.cells l.y
-
-abbrev pub decreases-loop-y : goal.decreases-loop-y
-decreases-loop-y l = 33 - l.y
