@@ -17,6 +17,7 @@ use sines::Sines;
 const ACCEPTED_SCALES: [f64; 5] = [0.065, 0.069, 0.07, 0.075, 0.08];
 
 // Whether a point lies outside the image.
+#[tactic(auto, unfolding(crate::specs::Scales::is_outside))]
 fn is_outside(shape: Shape, p: PointU) -> bool
     ensures { result ≡ is_outside shape p }
 {
