@@ -9,8 +9,9 @@ ghost use Rattle.detector_box.specs.BoxesClauses.{FlankedWhen};
 
 use bit_matrix::Shape;
 use detector_circle::Circle;
-use detector_outcome::Turn;
+use detector_outcome::{Outcome, Turn};
 use detector_symbol::Symbol;
+use sines::Sines;
 
 // A candidate's turn. With the option on an ellipse has none, and its centre is not corrected.
 fn turn_of(
@@ -18,19 +19,19 @@ fn turn_of(
     marks: &mut [u64],
     shape: Shape,
     circle: Circle,
-    table: &[f32; 360],
+    sines: &Sines,
     ellipse: bool,
 ) -> Turn
-    requires { LentCircle shape words.now marks.old circle table.now × FlankedWhen ellipse shape words.now circle.center }
+    requires { LentCircle shape words.now marks.old circle × FlankedWhen ellipse shape words.now circle.center }
     ensures { Ran (turn_at ellipse shape circle) words.now marks.old result marks.new }
 {
-    if !ellipse {
-        return detector_turn::try_scales(words, marks, shape, circle, table);
+    if ellipse && detector_ellipse::detect_ellipse(words, marks, shape, circle.center, sines) {
+        return Turn {
+            outcome: Outcome::Ellipse,
+            center: circle.center,
+        };
     }
-    if detector_ellipse::detect_ellipse(words, marks, shape, circle.center, table) {
-        return detector_outcome::ellipse_at(circle.center);
-    }
-    detector_turn::try_scales(words, marks, shape, circle, table)
+    detector_turn::try_scales(words, marks, shape, circle, sines)
 }
 
 // A candidate's symbol. Each stored bit that is read is marked.
@@ -39,15 +40,15 @@ pub fn box_symbol(
     marks: &mut [u64],
     shape: Shape,
     circle: Circle,
-    table: &[f32; 360],
+    sines: &Sines,
     ellipse: bool,
 ) -> Symbol
-    requires { LentCircle shape words.now marks.old circle table.now × FlankedWhen ellipse shape words.now circle.center }
+    requires { LentCircle shape words.now marks.old circle × FlankedWhen ellipse shape words.now circle.center }
     ensures { Ran (symbol_at ellipse shape circle) words.now marks.old result marks.new }
 {
-    let turn = turn_of(words, marks, shape, circle, table, ellipse);
+    let turn = turn_of(words, marks, shape, circle, sines, ellipse);
     let boundary = detector_boundary::plain_boundary(shape, circle.center, circle.radius);
-    let corners = detector_corners::corners_of(boundary, turn, table);
+    let corners = detector_corners::corners_of(boundary, turn, sines);
     let class = detector_outcome::class_of(turn);
     Symbol {
         turn,

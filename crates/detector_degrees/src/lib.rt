@@ -4,13 +4,13 @@
 ghost use Rattle.std.specs.Prelude.{◌≡◌, ℕ};
 ghost use Rattle.reads.specs.RunsClauses.{Ran};
 ghost use Rattle.bit_matrix.specs.ShapeClauses.{Image};
-ghost use Rattle.sines.specs.Sines.{sines};
 ghost use Rattle.detector_colours.specs.Looks.{look_offset};
 ghost use Rattle.detector_degrees.specs.Degrees.{point_of, degrees_from, try_degrees};
 ghost use Rattle.detector_degrees.specs.Offsets.{point_at, offset_past, EachPoint};
 
 use bit_matrix::Shape;
 use rxing_result_point::{Point, PointU};
+use sines::Sines;
 
 // A pixel as a point.
 fn point_at(p: PointU) -> Point
@@ -47,15 +47,15 @@ fn try_offsets(
     shape: Shape,
     center: Point,
     offsets: &[Point; 18],
-    table: &[f32; 360],
+    sines: &Sines,
 ) -> Option<u32>
-    requires { Image shape words.now marks.old × (table.now ≡ sines) }
+    requires { Image shape words.now marks.old }
     ensures { Ran (degrees_from (look_offset shape center offsets.now) 175 0)
         words.now marks.old result marks.new }
 {
     for i in 0..175 {
         let degree = i * 2;
-        let angle = sines::angle_of(table, degree);
+        let angle = sines.angle(degree);
         let found = detector_colours::test_degree(words, marks, shape, center, offsets, angle)?;
         if found {
             return Some(degree);
@@ -71,12 +71,12 @@ pub fn try_degrees(
     shape: Shape,
     center: PointU,
     groups: [[PointU; 3]; 6],
-    table: &[f32; 360],
+    sines: &Sines,
 ) -> Option<u32>
-    requires { Image shape words.now marks.old × (table.now ≡ sines) }
+    requires { Image shape words.now marks.old }
     ensures { Ran (try_degrees shape center groups) words.now marks.old result marks.new }
 {
     let center = point_at(center);
     let offsets = offsets_past(center, groups);
-    try_offsets(words, marks, shape, center, &offsets, table)
+    try_offsets(words, marks, shape, center, &offsets, sines)
 }

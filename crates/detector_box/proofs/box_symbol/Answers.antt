@@ -4,7 +4,6 @@ use native.Mathlib.Omega.{arith}
 use mathlib.Core.Bool.{Bool}
 use mathlib.Core.List.{List}
 use mathlib.Core.Path.{◌≡◌}
-use lib.Ieee.{Float}
 use Rattle.reads.specs.RunsClauses.{Ran}
 use Rattle.reads.proofs.RunsLaws.{ran_bind, ran_is, always_ran}
 use Rattle.bit_matrix.specs.declared.Shape.{Shape}
@@ -15,7 +14,7 @@ use Rattle.detector_boundary.specs.InImageLaws.{plain_placed}
 use Rattle.detector_boundary.specs.BoundaryClauses.{Placed}
 use Rattle.detector_circle.specs.declared.Circle.{Circle}
 use Rattle.detector_outcome.specs.declared.Turn.{Turn}
-use Rattle.detector_outcome.specs.Outcomes.{class_of}
+use Rattle.detector_outcome.specs.Outcomes.{degree_of, class_of}
 use Rattle.detector_turn.specs.ScalesClauses.{LentCircle}
 use Rattle.detector_turn.specs.ScalesLaws.{centered_of}
 use Rattle.detector_box.specs.Boxes.{turn_at, symbol_at}
@@ -24,12 +23,12 @@ use Rattle.detector_corners.specs.Corners.{corners_of}
 use borrow.Author.Rules.{rules}
 use Rattle.detector_box.proofs.box_symbol.Goals as goal
 
-placed : {shape : Shape} {words marks : List ℕ} {circle : Circle} {table : List Float} {b : Boundary} → LentCircle shape words marks circle table
+placed : {shape : Shape} {words marks : List ℕ} {circle : Circle} {b : Boundary} → LentCircle shape words marks circle
     → b ≡ plain_boundary shape circle.center circle.radius → Placed b
 placed lent e = rw e (plain_placed (centered_of lent) lent.least lent.most)
 
-low : {shape : Shape} {words marks after : List ℕ} {circle : Circle} {table : List Float} {turn : Turn} (ellipse : Bool)
-    → LentCircle shape words marks circle table → Ran (turn_at ellipse shape circle) words marks turn after → turn.degree < 360
+low : {shape : Shape} {words marks after : List ℕ} {circle : Circle} {turn : Turn} (ellipse : Bool)
+    → LentCircle shape words marks circle → Ran (turn_at ellipse shape circle) words marks turn after → degree_of turn.outcome < 360
 low {shape} {circle = circle} ellipse lent ran =
     let ended = always_ran (turn_ended ellipse shape circle lent.lent.inside) ran in
     omega (arith, ended.low)

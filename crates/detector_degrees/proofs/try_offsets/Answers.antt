@@ -44,13 +44,13 @@ pub loop-i-init : goal.loop-i-init
 loop-i-init c = search begins
 
 pub returns-in_err-found : goal.returns-in_err-found
-returns-in_err-found c = rw c.from_residual.ensures (lost c.loop-i.invariant c.loop-i-test.true c.angle_of-angle.ensures c.in_err-found.ensures)
+returns-in_err-found c = rw c.from_residual.ensures (lost c.loop-i.invariant c.loop-i-test.true c.angle-angle.ensures c.in_err-found.ensures)
 
 pub returns-then-found : goal.returns-then-found
-returns-then-found c = right c.loop-i.invariant c.loop-i-test.true c.angle_of-angle.ensures c.in_ok-found.ensures c.if-found.true
+returns-then-found c = right c.loop-i.invariant c.loop-i-test.true c.angle-angle.ensures c.in_ok-found.ensures c.if-found.true
 
 pub loop-i-preserved : goal.loop-i-preserved
-loop-i-preserved c = onward c.loop-i.invariant c.loop-i-test.true c.angle_of-angle.ensures c.in_ok-found.ensures c.if-found.false
+loop-i-preserved c = onward c.loop-i.invariant c.loop-i-test.true c.angle-angle.ensures c.in_ok-found.ensures c.if-found.false
 
 pub returns : goal.returns
 returns c = search at_end

@@ -22,8 +22,8 @@ use Rattle.detector_turn.specs.ScalesLaws.{centered_of}
 use borrow.Author.Rules.{rules}
 use Rattle.detector_turn.proofs.attempt_rotation_box.Goals as goal
 
-placed : {shape : Shape} {words marks : List ℕ} {circle : Circle} {table : List Float} (scale : Float) {b : Boundary}
-    → LentCircle shape words marks circle table → T (is_scale scale) → b ≡ scaled_boundary shape circle.center circle.radius scale → Placed b
+placed : {shape : Shape} {words marks : List ℕ} {circle : Circle} (scale : Float) {b : Boundary}
+    → LentCircle shape words marks circle → T (is_scale scale) → b ≡ scaled_boundary shape circle.center circle.radius scale → Placed b
 placed scale lent t e = rw e (scaled_placed scale (centered_of lent) lent.least lent.most t)
 
 attempted : {words marks after : List ℕ} {r : Option ℕ} (shape : Shape) (circle : Circle) (scale : Float)
