@@ -1,6 +1,6 @@
 -- One search of a row in `find_concentric_circles` of detector.rs, as a reading program (docs/MANUAL.md, "How a search decides"). `valid` is the test of the
 -- widths, the whole-number one or the source's in f32 (detector_widths/specs/). Definitions only. Assumes nothing.
-use Rattle.std.specs.Prelude.{ℕ, ◌+◌, ◌-◌, ◌/◌, Bool, true, false, cond, List, ◌∷◌, ◌++◌, eqb, replicate}
+use Rattle.std.specs.Prelude.{ℕ, ◌+◌, ◌-◌, ◌/◌, Bool, cond, List, ◌∷◌, ◌++◌, eqb, replicate, Option, Some, None}
 use Rattle.reads.specs.Reads.{Reads, done, ◌>>=◌}
 use Rattle.records.specs.Records.{Record}
 use Rattle.bit_matrix.specs.declared.Shape.{Shape}
@@ -14,26 +14,35 @@ unfoldable pub candidate_of : ℕ → Bullseye → List ℕ → Record
 candidate_of row eye vertical = eye.center ∷ row ∷ eye.radius ∷ (eye.buckets ++ vertical ++ replicate 15 0)
 
 -- no window: the row ends
-unfoldable pub nothing : ℕ → Searched
-nothing column = record { passed = false; ended = true; column = column; candidate = replicate 40 0 }
+abbrev pub nothing : Searched
+nothing = record { candidate = None; next = None }
 
 -- a bull's-eye: the next search starts at the column that closed its window
 unfoldable pub passed : ℕ → Bullseye → List ℕ → Searched
-passed row eye vertical = record { passed = true; ended = false; column = eye.center + eye.radius; candidate = candidate_of row eye vertical }
+passed row eye vertical = record { candidate = Some (candidate_of row eye vertical); next = Some (eye.center + eye.radius) }
 
 -- a window and no bull's-eye: the next search starts a quarter of the radius, rounded down, right of the centre less the radius, which is the window's first
 -- column, or for an odd sum of runs the one before it. If this search started there, the row ends.
 unfoldable pub failed : ℕ → Bullseye → Searched
 failed column eye =
     let next = eye.center - eye.radius + eye.radius / 4 in
-    record { passed = false; ended = eqb next column; column = next; candidate = replicate 40 0 }
+    record { candidate = None; next = cond (eqb next column) None (Some next) }
 
--- one search of a row, from a column on
-unfoldable pub search_by : (List ℕ → Bool) → Shape → ℕ → ℕ → Reads Searched
-search_by valid shape row column = do
-  eye ← next_bullseye_by valid shape row column
-  cond eye.found
-      (do
-        seen ← verify_bullseye_vertical_by valid shape row eye.center
-        cond seen.good (done (passed row eye seen.buckets)) (done (failed column eye)))
-      (done (nothing column))
+-- what a window comes to, by the runs of its column, if they pass
+abbrev pub judged : ℕ → ℕ → Bullseye → Option (List ℕ) → Searched
+judged row column eye (Some vertical) = passed row eye vertical
+judged row column eye None = failed column eye
+
+module _ (valid : List ℕ → Bool) (shape : Shape) (row column : ℕ) where
+  -- the column of a window is looked at
+  abbrev pub judge_by : Option Bullseye → Reads Searched
+  judge_by None = done nothing
+  judge_by (Some eye) = do
+    vertical ← verify_bullseye_vertical_by valid shape row eye.center
+    done (judged row column eye vertical)
+
+  -- one search of a row, from a column on
+  unfoldable pub search_by : Reads Searched
+  search_by = do
+    found ← next_bullseye_by valid shape row column
+    judge_by found

@@ -1,14 +1,10 @@
 -- What holds of one search of a row, on the image at hand: where it does not end its row, the next one starts further to the right, and its candidate is fit
 -- for the steps after the sweep; and that the search with the source's test of the widths is the same. Assumes nothing.
-use Prim.Native.Nat.{ℕ, zero, suc, ◌+◌, ◌-◌, ◌/◌, ◌≤◌, ◌<◌}
-use Rattle.std.proofs.Common.{arith, true≢false, length-append}
-use Rattle.std.specs.Prelude.{◌≡◌, refl, Bool, true, false, length, get_or}
-use Rattle.std.proofs.lemmas.Bool.{false≢true}
-use mathlib.Core.List.{List, [], ◌∷◌, ◌++◌}
+use Rattle.std.proofs.Common.{Option, Some, None, IfSome, cond, eqb, ℕ, zero, suc, ◌+◌, ◌-◌, ◌/◌, ◌≤◌, ◌<◌, arith, length-append, ◌≡◌, refl, Bool, true, false, length, get_or, List, [], ◌∷◌, ◌++◌}
 use borrow.Author.Tests.{eqb-false}
 use Rattle.std.proofs.Math.ListN.{replicate, length-replicate}
 use Rattle.reads.specs.ReadsLaws.{On, Same}
-use Rattle.reads.proofs.ReadsLaws.{on_done, on_always, on_bind, on_cond, same_refl, same_after, same_cond}
+use Rattle.reads.proofs.ReadsLaws.{on_done, on_always, on_bind, same_refl, same_after}
 use Rattle.reads.proofs.BitsLaws.{get_or_zeros}
 use Rattle.reads.specs.Total.{total}
 use Rattle.records.specs.Fields as field
@@ -16,20 +12,25 @@ use Rattle.records.specs.Records.{Record}
 use Rattle.bit_matrix.specs.declared.Shape.{Shape}
 use Rattle.bit_matrix.specs.ShapeClauses.{Limits, Inside}
 use Rattle.bit_matrix.specs.FlankedClauses.{Flanked}
+use Rattle.detector_widths.specs.Widths.{valid_widths}
 use Rattle.detector_widths.specs.WidthsF32.{valid_widths_f32}
 use Rattle.detector_first_window.specs.FirstWindowLaws.{Closed}
 use Rattle.detector_rows.specs.RowsLaws.{closed_on, same_rows_f32}
 use Rattle.detector_window.specs.declared.Bullseye.{Bullseye}
 use Rattle.detector_columns.specs.ColumnsLaws.{Bounded, verified_bounded, same_vertical_f32}
-use Rattle.detector_candidate.specs.Candidate.{candidate_of, nothing, passed, failed, search_by}
+use Rattle.detector_candidate.specs.Candidate.{candidate_of, passed, failed, judged, judge_by, search_by}
 use Rattle.detector_candidate.specs.CandidateClauses.{Searchable, search_from}
 use Rattle.detector_candidate.specs.declared.Searched.{Searched}
 
 -- ---- a search goes on to the right
 
-pub record Onward (width column : ℕ) (s : Searched) : Type 0 where
-  pub further : s.ended ≡ false → column < s.column
-  pub inside : s.ended ≡ false → s.column < width - 6
+-- a start further to the right
+pub record Further (width column next : ℕ) : Type 0 where
+  pub further : column < next
+  pub inside : next < width - 6
+
+abbrev pub Onward : ℕ → ℕ → Searched → Type 0
+Onward width column s = IfSome s.next (Further width column)
 
 module _ {shape : Shape} {image : ℕ → Bool} {row start : ℕ} {eye : Bullseye} (closed : Closed shape image row start eye) where
   -- where a search goes on after a window that failed: at or right of its start, and left of its limit
@@ -41,23 +42,20 @@ module _ {shape : Shape} {image : ℕ → Bool} {row start : ℕ} {eye : Bullsey
 
   passed_onward : (vertical : List ℕ) → Onward shape.width start (passed row eye vertical)
   unfolding passed
-  passed_onward vertical = record {
-    further = λ _. omega (arith, closed.after_start, closed.eleven_pixels);
-    inside = λ _. closed.before_limit;
-  }
+  passed_onward vertical = record { further = omega (arith, closed.after_start, closed.eleven_pixels); inside = closed.before_limit }
 
   failed_onward : Onward shape.width start (failed start eye)
   unfolding failed
-  failed_onward = record {
-    further = λ e.
-        let other : eye.center - eye.radius + eye.radius / 4 ≡ start → ⊥ = eqb-false _ _ e in
-        omega (arith, quarter_after, other);
-    inside = λ _. quarter_inside;
-  }
+  failed_onward = go (eqb next start) refl
+    where
+      next : ℕ
+      next = eye.center - eye.radius + eye.radius / 4
 
-nothing_onward : (width column : ℕ) → Onward width column (nothing column)
-unfolding nothing
-nothing_onward width column = record { further = λ e. absurd (true≢false e); inside = λ e. absurd (true≢false e) }
+      go : (t : Bool) → eqb next start ≡ t → IfSome (cond t None (Some next)) (Further shape.width start)
+      go true e = tt
+      go false e =
+          let other : next ≡ start → ⊥ = eqb-false next start e in
+          record { further = omega (arith, quarter_after, other); inside = quarter_inside }
 
 -- ---- each candidate
 
@@ -114,12 +112,11 @@ module _ {shape : Shape} {image : ℕ → Bool} {row column : ℕ} (limits : Lim
   }
 
 -- where the next search of a row starts
-pub searchable_next : {shape : Shape} {row column : ℕ} {s : Searched} → Searchable shape row column → Onward shape.width column s → s.ended ≡ false
-    → Searchable shape row s.column
-searchable_next at onward on = record {
-  inside = record { column = omega (arith, onward.inside on); row = at.inside.row };
-  left = omega (arith, at.left, onward.further on);
-  right = onward.inside on;
+pub searchable_next : {shape : Shape} {row column next : ℕ} → Searchable shape row column → Further shape.width column next → Searchable shape row next
+searchable_next at onward = record {
+  inside = record { column = omega (arith, onward.inside); row = at.inside.row };
+  left = omega (arith, at.left, onward.further);
+  right = onward.inside;
 }
 
 -- where the first search of a row starts
@@ -133,35 +130,32 @@ searchable_first limits above = record {
 -- a search's candidate, if it has one
 pub record FitSearch (shape : Shape) (image : ℕ → Bool) (column : ℕ) (s : Searched) : Type 0 where
   pub onward : Onward shape.width column s
-  pub fit : s.passed ≡ true → Candidate shape image s.candidate
+  pub fit : IfSome s.candidate (Candidate shape image)
 
 pub search_fit : (shape : Shape) (image : ℕ → Bool) (row column : ℕ) → Limits shape → Searchable shape row column
     → On image (FitSearch shape image column) (search_from shape row column)
-unfolding search_by passed failed nothing
-search_fit shape image row column limits at =
-    on_bind image _ (closed_on shape row column image) λ eye closed.
-    on_cond image eye.found
-    (λ found.
-    on_bind image _ (on_always image (verified_bounded shape row eye.center)) λ seen bounded.
-    on_cond image seen.good
-    (λ _. on_done image (fits_passed (closed found) bounded))
-    (λ _. on_done image (fits_failed (closed found))))
-    (λ _. on_done image (record { onward = nothing_onward shape.width column; fit = λ e. absurd (false≢true e) }))
+unfolding search_by passed failed
+search_fit shape image row column limits at = on_bind image _ (closed_on shape row column image) judge_fit
   where
-    fits_passed : {eye : Bullseye} {vertical : List ℕ} → Closed shape image row column eye → Bounded shape.height vertical
-        → FitSearch shape image column (passed row eye vertical)
-    fits_passed {eye} {vertical} closed bounded = record { onward = passed_onward closed vertical; fit = λ _. candidate_fit limits at closed bounded }
+    judged_fit : {eye : Bullseye} → Closed shape image row column eye → (vertical : Option (List ℕ)) → IfSome vertical (Bounded shape.height)
+        → FitSearch shape image column (judged row column eye vertical)
+    judged_fit closed (Some vertical) bounded = record { onward = passed_onward closed vertical; fit = candidate_fit limits at closed bounded }
+    judged_fit closed None _ = record { onward = failed_onward closed; fit = tt }
 
-    fits_failed : {eye : Bullseye} → Closed shape image row column eye → FitSearch shape image column (failed column eye)
-    fits_failed closed = record { onward = failed_onward closed; fit = λ e. absurd (false≢true e) }
+    judge_fit : (found : Option Bullseye) → IfSome found (Closed shape image row column)
+        → On image (FitSearch shape image column) (judge_by valid_widths shape row column found)
+    judge_fit None _ = on_done image (record { onward = tt; fit = tt })
+    judge_fit (Some eye) closed =
+        on_bind image _ (on_always image (verified_bounded shape row eye.center)) λ vertical bounded.
+        on_done image (judged_fit closed vertical bounded)
 
 -- ---- with the source's test of the widths
 
 pub same_search : (shape : Shape) → shape.width ≤ 2048 → shape.height ≤ 2048 → (row column : ℕ)
     → Same (search_by valid_widths_f32 shape row column) (search_from shape row column)
 unfolding search_by
-same_search shape narrow low row column =
-    same_after _ _ (same_rows_f32 shape row column (omega arith)) λ eye.
-    same_cond eye.found
-    (λ _. same_after _ _ (same_vertical_f32 shape row low eye.center) λ seen. same_refl)
-    (λ _. same_refl)
+same_search shape narrow low row column = same_after _ _ (same_rows_f32 shape row column (omega arith)) same_judge
+  where
+    same_judge : (found : Option Bullseye) → Same (judge_by valid_widths_f32 shape row column found) (judge_by valid_widths shape row column found)
+    same_judge None = same_refl
+    same_judge (Some eye) = same_after _ _ (same_vertical_f32 shape row low eye.center) λ vertical. same_refl

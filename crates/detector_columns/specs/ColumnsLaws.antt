@@ -1,12 +1,10 @@
 -- What holds of the vertical check on every image: no run is longer than the rows, so no sum overflows, and the check with the source's test of the
 -- widths is the same. Assumes nothing.
-use Prim.Native.Nat.{ℕ, zero, suc, ◌+◌, ◌-◌, ◌*◌, ◌≤◌, ◌<◌}
+use Rattle.std.proofs.Common.{ℕ, zero, suc, ◌+◌, ◌-◌, ◌*◌, ◌≤◌, ◌<◌, arith, lt-ltb, le-ltb, get_or-set_same, get_or-set_other, ◌≡◌, refl, Bool, true, false, cond, List, [], ◌∷◌, ltb, length, set, replicate, Option, Some, None, IfSome}
 use Rattle.std.proofs.Math.Decide.{dec_lt, ℕ_discrete}
-use Rattle.std.proofs.Common.{arith, lt-ltb, le-ltb, get_or-set_same, get_or-set_other}
-use Rattle.std.specs.Prelude.{◌≡◌, refl, Bool, true, false, cond, List, [], ◌∷◌, ltb, length, set, replicate}
 use Rattle.std.proofs.Math.Seq.{set_out}
 use Rattle.reads.specs.ReadsLaws.{Always, Same}
-use Rattle.reads.proofs.ReadsLaws.{always_done, always_bind, always_after, always_cond, same_refl, same_bind, same_after, same_cond}
+use Rattle.reads.proofs.ReadsLaws.{always_done, always_bind, always_after, always_cond, same_refl, same_bind, same_after}
 use Rattle.reads.proofs.BitsLaws.{get_or_zeros}
 use Rattle.bit_matrix.specs.declared.Shape.{Shape}
 use Rattle.bit_matrix.specs.Pixels.{pixel}
@@ -21,11 +19,14 @@ use Rattle.detector_columns.specs.Columns.{
   column_vector,
   potential_bullseye_array,
   potential_bullseye,
+  or_else,
   try_column_by,
+  try_columns_by,
   verify_bullseye_vertical_by,
 }
 use Rattle.detector_columns.specs.ColumnsClauses.{try_column, verify_bullseye_vertical}
-use Rattle.detector_columns.specs.declared.Verified.{Verified}
+use Rattle.detector_columns.specs.declared.Direction.{Direction}
+use Rattle.detector_columns.specs.declared.Direction.TheVariants.{Up, Down}
 
 -- no run is longer than `most`
 pub record AtMost (most : ℕ) (runs : List ℕ) : Type 0 where
@@ -43,22 +44,22 @@ bump_le buckets pointer k = go (dec_lt pointer (length buckets)) (ℕ_discrete k
     go (no h) (yes e) = rw (set_out buckets pointer (at buckets pointer + 1) (omega arith)) (omega arith)
     go h (no other) = rw (get_or-set_other buckets pointer k (at buckets pointer + 1) 0 other) (omega arith)
 
-pub rows_le : (looking_up : Bool) (height row : ℕ) → rows_left looking_up height row ≤ height
+pub rows_le : (direction : Direction) (height row : ℕ) → rows_left direction height row ≤ height
 unfolding rows_left
-rows_le true height row = go (ltb 0 row)
+rows_le Up height row = go (ltb 0 row)
   where
     go : (b : Bool) → cond b (height - row) 0 ≤ height
     go true = omega arith
     go false = omega arith
-rows_le false height row = go (dec_lt row height)
+rows_le Down height row = go (dec_lt row height)
   where
     go : Dec (row < height) → cond (ltb row height) row 0 ≤ height
     go (yes h) = rw (lt-ltb row height h) (omega arith)
     go (no h) = rw (le-ltb row height (omega arith)) (omega arith)
 
-module _ (shape : Shape) (column : ℕ) (looking_up : Bool) (most : ℕ) where
+module _ (shape : Shape) (column : ℕ) (direction : Direction) (most : ℕ) where
   vector_from_le : (n row : ℕ) (last : Bool) (pointer : ℕ) (buckets : List ℕ)
-      → ((k : ℕ) → at buckets k + n ≤ most) → Always (AtMost most) (vector_from shape column looking_up n row last pointer buckets)
+      → ((k : ℕ) → at buckets k + n ≤ most) → Always (AtMost most) (vector_from shape column direction n row last pointer buckets)
   unfolding vector_from
   vector_from_le zero row last pointer buckets room = always_done (record { run = λ k. omega (arith, room k) })
   vector_from_le (suc n) row last pointer buckets room =
@@ -68,12 +69,12 @@ module _ (shape : Shape) (column : ℕ) (looking_up : Bool) (most : ℕ) where
       (λ _. vector_from_le n _ black _ _ λ k. omega (arith, room k, bump_le buckets (pointer_after pointer black last) k))
 
 -- no run is longer than the rows
-pub column_vector_le : (shape : Shape) (column start_row : ℕ) (looking_up : Bool)
-    → Always (AtMost shape.height) (column_vector shape column start_row looking_up)
+pub column_vector_le : (shape : Shape) (column start_row : ℕ) (direction : Direction)
+    → Always (AtMost shape.height) (column_vector shape column start_row direction)
 unfolding column_vector
-column_vector_le shape column start_row looking_up =
-    vector_from_le shape column looking_up shape.height (rows_left looking_up shape.height start_row) start_row false 0 (replicate 6 0)
-    λ k. rw (get_or_zeros 6 k) (omega (arith, rows_le looking_up shape.height start_row))
+column_vector_le shape column start_row direction =
+    vector_from_le shape column direction shape.height (rows_left direction shape.height start_row) start_row false 0 (replicate 6 0)
+    λ k. rw (get_or_zeros 6 k) (omega (arith, rows_le direction shape.height start_row))
 
 -- ---- eleven runs
 
@@ -116,22 +117,31 @@ module _ (shape : Shape) (row : ℕ) where
   pub potential_bounded : (column : ℕ) → Always (Bounded shape.height) (potential_bullseye shape row column)
   unfolding potential_bullseye
   potential_bounded column =
-      always_bind _ (column_vector_le shape column row true) λ up up_le.
-      always_bind _ (column_vector_le shape column row false) λ down down_le.
+      always_bind _ (column_vector_le shape column row Up) λ up up_le.
+      always_bind _ (column_vector_le shape column row Down) λ down down_le.
       always_done (array_bounded down_le up_le)
 
-  try_bounded : (column : ℕ) → Always (λ (verified : Verified). Bounded shape.height verified.buckets) (try_column shape row column)
-  unfolding try_column_by
-  try_bounded column = always_bind _ (potential_bounded column) λ buckets bounded. always_done bounded
+  bounded_if : {buckets : List ℕ} → Bounded shape.height buckets → (pass : Bool) → IfSome (cond pass (Some buckets) None) (Bounded shape.height)
+  bounded_if bounded true = bounded
+  bounded_if bounded false = tt
 
-  pub verified_bounded : (column : ℕ)
-      → Always (λ (verified : Verified). Bounded shape.height verified.buckets) (verify_bullseye_vertical shape row column)
-  unfolding verify_bullseye_vertical_by
-  verified_bounded column =
-      always_bind _ (try_bounded column) λ here here_bounded.
-      always_cond here.good (λ _. always_done here_bounded) λ _.
-      always_bind _ (try_bounded _) λ right right_bounded.
-      always_cond right.good (λ _. always_done right_bounded) λ _. try_bounded _
+  try_bounded : (column : ℕ) → Always (λ passed. IfSome passed (Bounded shape.height)) (try_column shape row column)
+  unfolding try_column_by
+  try_bounded column = always_bind _ (potential_bounded column) λ buckets bounded. always_done (bounded_if bounded (valid_widths buckets))
+
+  tries_bounded : (columns : List ℕ) → Always (λ passed. IfSome passed (Bounded shape.height)) (try_columns_by valid_widths shape row columns)
+  unfolding try_columns_by
+  tries_bounded [] = always_done tt
+  tries_bounded (column ∷ columns) = always_bind _ (try_bounded column) (λ passed bounded. next passed bounded (tries_bounded columns))
+    where
+      next : (passed : Option (List ℕ)) → IfSome passed (Bounded shape.height)
+          → Always (λ runs. IfSome runs (Bounded shape.height)) (try_columns_by valid_widths shape row columns)
+          → Always (λ runs. IfSome runs (Bounded shape.height)) (or_else passed (try_columns_by valid_widths shape row columns))
+      next None _ later = later
+      next (Some runs) bounded _ = always_done bounded
+
+  pub verified_bounded : (column : ℕ) → Always (λ passed. IfSome passed (Bounded shape.height)) (verify_bullseye_vertical shape row column)
+  verified_bounded column = tries_bounded _
 
   -- ---- with the source's test of the widths
 
@@ -140,12 +150,18 @@ module _ (shape : Shape) (row : ℕ) where
   same_try low column =
       same_bind _ _ same_refl (potential_bounded column) λ buckets bounded. rw (bounded_widths low bounded) same_refl
 
+  same_tries : shape.height ≤ 2048 → (columns : List ℕ)
+      → Same (try_columns_by valid_widths_f32 shape row columns) (try_columns_by valid_widths shape row columns)
+  unfolding try_columns_by
+  same_tries low [] = same_refl
+  same_tries low (column ∷ columns) = same_after _ _ (same_try low column) (λ passed. next passed (same_tries low columns))
+    where
+      next : (passed : Option (List ℕ)) → Same (try_columns_by valid_widths_f32 shape row columns) (try_columns_by valid_widths shape row columns)
+          → Same (or_else passed (try_columns_by valid_widths_f32 shape row columns)) (or_else passed (try_columns_by valid_widths shape row columns))
+      next None later = later
+      next (Some runs) _ = same_refl
+
   -- The check with the source's f32 test has the results and the reads of the check with the whole-number one.
   pub same_vertical_f32 : shape.height ≤ 2048 → (column : ℕ)
       → Same (verify_bullseye_vertical_by valid_widths_f32 shape row column) (verify_bullseye_vertical shape row column)
-  unfolding verify_bullseye_vertical_by
-  same_vertical_f32 low column =
-      same_after _ _ (same_try low column) λ here.
-      same_cond here.good (λ _. same_refl) λ _.
-      same_after _ _ (same_try low _) λ right.
-      same_cond right.good (λ _. same_refl) λ _. same_try low _
+  same_vertical_f32 low column = same_tries low _

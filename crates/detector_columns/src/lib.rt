@@ -4,16 +4,41 @@
 ghost use Rattle.std.specs.Prelude.{◌≡◌, ◌+◌, ◌^◌, ◌≤◌, ◌<◌, get_or};
 ghost use Rattle.reads.specs.RunsClauses.{Ran};
 ghost use Rattle.bit_matrix.specs.ShapeClauses.{Image};
-ghost use Rattle.detector_columns.specs.Columns.{pointer_after, row_after, column_vector, potential_bullseye_array};
+ghost use Rattle.detector_columns.specs.Columns.{pointer_after, row_after, rows_left, column_vector, potential_bullseye_array};
 ghost use Rattle.detector_columns.specs.ColumnsClauses.{try_column, verify_bullseye_vertical};
 
 use bit_matrix::Shape;
 
-// What the vertical check answers: whether a column passed, and the eleven runs of the last one tried.
+// The way of a walk along a column: up to higher rows, or down.
 #[derive(Clone, Copy)]
-pub struct Verified {
-    pub good: bool,
-    pub buckets: [u32; 11],
+pub enum Direction {
+    Up,
+    Down,
+}
+
+impl Direction {
+    // The row looked at after this one.
+    fn next(self, row: u32) -> u32
+        requires { (0 < row) × (row + 1 < 2 ^ 32) }
+        ensures { result ≡ row_after row self }
+    {
+        match self {
+            Direction::Up => row + 1,
+            Direction::Down => row - 1,
+        }
+    }
+
+    // How many rows are looked at from a row on: up to the last, or down to row 1. Row 0 is never looked at.
+    fn rows_left(self, height: u32, row: u32) -> u32
+        ensures { result ≡ rows_left self height row }
+    {
+        match self {
+            Direction::Up if row == 0 => 0,
+            Direction::Up => height.saturating_sub(row),
+            Direction::Down if row < height => row,
+            Direction::Down => 0,
+        }
+    }
 }
 
 // The run that a pixel belongs to: the present one, or the next where the colour changes.
@@ -28,31 +53,23 @@ fn next_pointer(pointer: usize, local_bit: bool, last_color: bool) -> usize
     }
 }
 
-// The row looked at after this one.
-fn next_row(row: u32, looking_up: bool) -> u32
-    requires { (0 < row) × (row + 1 < 2 ^ 32) }
-    ensures { result ≡ row_after row looking_up }
-{
-    if looking_up { row + 1 } else { row - 1 }
-}
-
-// Six runs of one colour each, white first, up or down a column from a row on. Row 0 is never looked at.
+// Six runs of one colour each, white first, along a column from a row on.
 pub fn get_column_vector(
     words: &[u64],
     marks: &mut [u64],
     shape: Shape,
     column: u32,
     start_row: u32,
-    looking_up: bool,
+    direction: Direction,
 ) -> [u32; 6]
     requires { Image shape words.now marks.old }
-    ensures { Ran (column_vector shape column start_row looking_up) words.now marks.old result marks.new }
+    ensures { Ran (column_vector shape column start_row direction) words.now marks.old result marks.new }
 {
-    let mut buckets = [0u32; 6];
+    let mut buckets = [0; 6];
     let mut row = start_row;
     let mut last_color = false;
-    let mut pointer = 0usize;
-    while row > 0 && row < shape.height {
+    let mut pointer = 0;
+    'rows: for _ in 0..direction.rows_left(shape.height, start_row) {
         let local_bit = bit_matrix::get(words, marks, shape, column, row);
         pointer = next_pointer(pointer, local_bit, last_color);
         if pointer > 5 {
@@ -60,7 +77,7 @@ pub fn get_column_vector(
         }
         buckets[pointer] += 1;
         last_color = local_bit;
-        row = next_row(row, looking_up);
+        row = direction.next(row);
     }
     buckets
 }
@@ -70,56 +87,51 @@ pub fn build_potential_bullsey_array(vector_1: &[u32; 6], vector_2: &[u32; 6]) -
     requires { get_or vector_1.now 0 0 + get_or vector_2.now 0 0 < 2 ^ 32 }
     ensures { result ≡ potential_bullseye_array vector_1.now vector_2.now }
 {
-    [
-        vector_1[5],
-        vector_1[4],
-        vector_1[3],
-        vector_1[2],
-        vector_1[1],
-        vector_1[0] + vector_2[0],
-        vector_2[1],
-        vector_2[2],
-        vector_2[3],
-        vector_2[4],
-        vector_2[5],
-    ]
+    let mut backwards = *vector_1;
+    backwards.reverse();
+    let mut potential_bullseye = [0; 11];
+    potential_bullseye[..6].copy_from_slice(&backwards);
+    potential_bullseye[5..].copy_from_slice(vector_2);
+    potential_bullseye[5] = vector_1[0] + vector_2[0];
+    potential_bullseye
 }
 
-// The check of one column.
-fn try_column(words: &[u64], marks: &mut [u64], shape: Shape, row: u32, column: u32) -> Verified
+// The check of one column: its eleven runs, if they pass.
+fn try_column(
+    words: &[u64],
+    marks: &mut [u64],
+    shape: Shape,
+    row: u32,
+    column: u32,
+) -> Option<[u32; 11]>
     requires { Image shape words.now marks.old }
     ensures { Ran (try_column shape row column) words.now marks.old result marks.new }
 {
-    let up_vector = get_column_vector(words, marks, shape, column, row, true);
-    let down_vector = get_column_vector(words, marks, shape, column, row, false);
+    let up_vector = get_column_vector(words, marks, shape, column, row, Direction::Up);
+    let down_vector = get_column_vector(words, marks, shape, column, row, Direction::Down);
     let potential_bullseye = build_potential_bullsey_array(&down_vector, &up_vector);
-    let good = detector_widths::validate_bullseye_widths(&potential_bullseye);
-    Verified {
-        good,
-        buckets: potential_bullseye,
+    if detector_widths::validate_bullseye_widths(&potential_bullseye) {
+        Some(potential_bullseye)
+    } else {
+        None
     }
 }
 
-// A column is tried, then the next, then the one before, until one passes.
+// A column is tried, then the next, then the one before, until one passes: its eleven runs.
 pub fn verify_bullseye_vertical(
     words: &[u64],
     marks: &mut [u64],
     shape: Shape,
     row: u32,
     column: u32,
-) -> Verified
+) -> Option<[u32; 11]>
     requires { Image shape words.now marks.old × (0 < column) × (column + 1 < 2 ^ 32) }
     ensures { Ran (verify_bullseye_vertical shape row column) words.now marks.old result marks.new }
 {
-    let next = column + 1;
-    let before = column - 1;
-    let here = try_column(words, marks, shape, row, column);
-    if here.good {
-        return here;
+    for column in [column, column + 1, column - 1] {
+        if let Some(buckets) = try_column(words, marks, shape, row, column) {
+            return Some(buckets);
+        }
     }
-    let right = try_column(words, marks, shape, row, next);
-    if right.good {
-        return right;
-    }
-    try_column(words, marks, shape, row, before)
+    None
 }
