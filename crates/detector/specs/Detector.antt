@@ -10,7 +10,7 @@ use Rattle.bit_matrix.specs.Shape.{shape_of}
 use Rattle.marks.specs.Marks.{ones_of}
 use Rattle.crop.specs.Crop.{file_shape, image, words_refusal, file_refusal, refused_or}
 use Rattle.records.specs.Records.{capacity_of, laid_out}
-use Rattle.detector_verdict.specs.declared.Counts.{Counts}
+use Rattle.detector_verdict.specs.Verdict.{Numbers}
 use Rattle.detector_search.specs.Search.{Result, search_at}
 use Rattle.detector.specs.declared.Report.{Report}
 
@@ -24,7 +24,7 @@ abbrev pub run : Report → List ℕ → List ℕ → Run
 run r records marks = record { report = r; records = records; marks = marks }
 
 -- the report of a search with these counts, after which n bits are marked
-abbrev pub report_of : Counts → ℕ → Report
+abbrev pub report_of : Numbers → ℕ → Report
 report_of c n = record { answer = c.answer; found = c.found; kept = c.kept; marked = n }
 
 -- the report of a refusal: the counts are 0

@@ -4,6 +4,7 @@
 ghost use Rattle.std.specs.Prelude.{◌≡◌, ◌≤◌, length};
 ghost use Rattle.bit_matrix.specs.ShapeClauses.{Image};
 ghost use Rattle.crop.specs.CropClauses.{Checks};
+ghost use Rattle.detector_verdict.specs.Verdict.{numbers_of};
 ghost use Rattle.detector.specs.Detector.{run, report_of, refused_report, accepted_run, words_run, filed, file_run};
 
 use bit_matrix::Shape;
@@ -22,10 +23,10 @@ pub struct Report {
 }
 
 fn report_of(counts: Counts, marked: u32) -> Report
-    ensures { result ≡ report_of counts marked }
+    ensures { result ≡ report_of (numbers_of counts) marked }
 {
     Report {
-        answer: counts.answer,
+        answer: u32::from(counts.answer),
         found: counts.found,
         kept: counts.kept,
         marked,

@@ -67,18 +67,21 @@ module _ {found : ℕ} {s : Spread} {l₀ l : List ℕ} {kept i : ℕ} (so_far :
     inside : i < length (rows found l₀)
     inside = omega (arith, length_rows found l₀)
 
-    pub retained_passed : (fields : Record) → fields ≡ r → near s fields ≡ false → Retaining found s l₀ l kept (i + 1)
-    retained_passed fields is e = record {
+    near_here : (rs : List Record) → rs ≡ rows found l → near s (get_or rs i []) ≡ near s r
+    near_here rs are = ap (λ (xs : List Record). near s (get_or xs i [])) are ∙ ap (near s) (get_row found l i h)
+
+    pub retained_passed : (rs : List Record) → rs ≡ rows found l → near s (get_or rs i []) ≡ false → Retaining found s l₀ l kept (i + 1)
+    retained_passed rs are e = record {
       few = omega arith;
       fewer = omega (arith, so_far.fewer);
       beside = so_far.beside;
-      front = so_far.front ∙ filter_same (near s) (rows found l₀) i r [] inside unmoved (ap (near s) (sym is) ∙ e);
+      front = so_far.front ∙ filter_same (near s) (rows found l₀) i r [] inside unmoved (sym (near_here rs are) ∙ e);
       back = drop_more (rows found l) i ∙ ap (drop 1) so_far.back ∙ sym (drop_more (rows found l₀) i);
     }
 
-    pub taken : (fields : Record) → fields ≡ r → near s fields ≡ true → (l' : List ℕ) → l' ≡ put l kept fields → length l' ≡ length l
+    pub taken : (rs : List Record) → rs ≡ rows found l → near s (get_or rs i []) ≡ true → (l' : List ℕ) → l' ≡ put l kept r → length l' ≡ length l
         → Retaining found s l₀ l' (kept + 1) (i + 1)
-    taken fields is e l' stored sized = record {
+    taken rs are e l' stored sized = record {
       few = omega arith;
       fewer = omega (arith, so_far.fewer);
       beside = beside_then so_far.beside now sized;
@@ -87,7 +90,7 @@ module _ {found : ℕ} {s : Spread} {l₀ l : List ℕ} {kept i : ℕ} (so_far :
           ∙ ap (λ (k : ℕ). take k (set (rows found l) kept r)) (add-one kept)
           ∙ take-suc-set (rows found l) kept r (omega (arith, length_rows found l, so_far.fewer))
           ∙ ap (λ (rs : List Record). rs ++ (r ∷ [])) so_far.front
-          ∙ filter_more (near s) (rows found l₀) i r [] inside unmoved (ap (near s) (sym is) ∙ e);
+          ∙ filter_more (near s) (rows found l₀) i r [] inside unmoved (sym (near_here rs are) ∙ e);
       back =
           ap (drop (i + 1)) now.records
           ∙ drop-set-lt (i + 1) (rows found l) kept r (omega (arith, so_far.fewer))
@@ -95,7 +98,7 @@ module _ {found : ℕ} {s : Spread} {l₀ l : List ℕ} {kept i : ℕ} (so_far :
     }
       where
         now : Became found l (set (rows found l) kept r) l'
-        now = replaced found l kept r l' (stored ∙ ap (put l kept) is) (omega (arith, so_far.fewer)) (beside_room so_far.beside) whole
+        now = replaced found l kept r l' stored (omega (arith, so_far.fewer)) (beside_room so_far.beside) whole
 
   pub over : found ≤ i → Retained found s l₀ kept l
   over h = record {

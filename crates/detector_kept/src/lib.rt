@@ -35,12 +35,12 @@ impl Axis {
 }
 
 impl Spread {
-    // Both coordinates of the record's centre are near the mean.
-    fn is_near(self, record: &[u32; 40]) -> bool
-        ensures { result ≡ near self record.now }
+    // Both coordinates of the candidate's centre are near the mean.
+    fn is_near(self, candidate: &[u32; 40]) -> bool
+        ensures { result ≡ near self candidate.now }
     {
-        let near_x = self.x.is_within(record[records::CENTER_X]);
-        let near_y = self.y.is_within(record[records::CENTER_Y]);
+        let near_x = self.x.is_within(candidate[records::CENTER_X]);
+        let near_y = self.y.is_within(candidate[records::CENTER_Y]);
         near_x & near_y
     }
 }
@@ -98,9 +98,9 @@ fn retain_near(records: &mut [u32], found: usize, spread: Spread) -> usize
 {
     let mut kept = 0;
     for i in 0..found {
-        let record = records::load(records, i);
-        if spread.is_near(&record) {
-            records::store(records, kept, &record);
+        let candidates = records::front(records, found);
+        if spread.is_near(&candidates[i]) {
+            records::copy(records, i, kept);
             kept += 1;
         }
     }

@@ -24,10 +24,9 @@ use Rattle.detector_variances.specs.Variances.{with_variance}
 use Rattle.detector_variances.specs.VariancesClauses.{Small}
 use Rattle.detector_variances.specs.VariancesLaws.{varied_word}
 use Rattle.detector_kept.specs.KeptLaws.{each_ranked}
-use Rattle.detector_verdict.specs.Verdict.{verdict}
+use Rattle.detector_verdict.specs.Verdict.{Numbers, verdict}
 use Rattle.detector_verdict.specs.VerdictClauses.{Judgeable, Holds, Judged}
 use Rattle.detector_verdict.specs.VerdictLaws.{no_records, verdict_counted, counted_few, kept_counted, each_kept}
-use Rattle.detector_verdict.specs.declared.Counts.{Counts}
 use Rattle.detector_boxes.specs.Boxing.{boxed_all}
 use Rattle.detector_boxes.specs.BoxingClauses.{Boxable, AllBoxable, Boxed}
 use Rattle.detector_search.specs.declared.Setting.{Setting}
@@ -87,7 +86,7 @@ module _ (setting : Setting) {words marks records : List ℕ} (image : Image set
     }
 
     -- after the verdict
-    module _ {r : Counts} {c₂ : List ℕ} (judging : (cs : List Record) → Holds capacity n c₁ cs → Judged capacity cs c₁ r c₂) where
+    module _ {r : Numbers} {c₂ : List ℕ} (judging : (cs : List Record) → Holds capacity n c₁ cs → Judged capacity cs c₁ r c₂) where
       judged : Judged capacity candidates c₁ r c₂
       judged = judging candidates (record { counted = counted; stored = stored })
 
@@ -95,7 +94,7 @@ module _ (setting : Setting) {words marks records : List ℕ} (image : Image set
       kept = (verdict capacity candidates).kept
 
       number : r.kept ≡ length kept
-      number = ap (λ (c : Counts). c.kept) judged.counts ∙ kept_counted capacity candidates
+      number = ap (λ (c : Numbers). c.kept) judged.counts ∙ kept_counted capacity candidates
 
       laid : c₂ ≡ laid_out capacity kept records
       unfolding laid_out
@@ -125,7 +124,7 @@ module _ (setting : Setting) {words marks records : List ℕ} (image : Image set
 
         buffer_room : 40 * k ≤ length c₂
         buffer_room =
-            omega (arith, room.held, ap (λ (c : Counts). c.kept) judged.counts, counted_few (verdict_counted capacity candidates fits.1))
+            omega (arith, room.held, ap (λ (c : Numbers). c.kept) judged.counts, counted_few (verdict_counted capacity candidates fits.1))
 
         pub boxable : AllBoxable shape words k c₂
         boxable = record {

@@ -4,14 +4,13 @@ use Rattle.std.specs.Prelude.{List}
 use Rattle.reads.specs.Reads.{Reads, done, ◌>>=◌}
 use Rattle.records.specs.Records.{Record}
 use Rattle.detector_candidates.specs.Candidates.{concentric_circles}
-use Rattle.detector_verdict.specs.declared.Counts.{Counts}
-use Rattle.detector_verdict.specs.Verdict.{verdict}
+use Rattle.detector_verdict.specs.Verdict.{Numbers, verdict}
 use Rattle.detector_boxes.specs.Boxing.{boxed_all}
 use Rattle.detector_search.specs.declared.Setting.{Setting}
 
 -- what a search gives: its answer and counts, and the kept records
 pub record Result : Type 0 where
-  pub counts : Counts
+  pub counts : Numbers
   pub records : List Record
 
 unfoldable pub search_at : Setting → Reads Result

@@ -4,6 +4,7 @@
 
 ghost use Rattle.bit_matrix.specs.ShapeClauses.{Image};
 ghost use Rattle.detector_candidates.specs.CandidatesClauses.{Room};
+ghost use Rattle.detector_verdict.specs.Verdict.{numbers_of};
 ghost use Rattle.detector_search.specs.Search.{search_at};
 ghost use Rattle.detector_search.specs.SearchClauses.{Sought};
 
@@ -21,7 +22,7 @@ pub struct Setting {
 // The search of an image, whose marks the caller has cleared: the records of the kept candidates into the buffer, with their boxes and turns.
 pub fn search(words: &[u64], marks: &mut [u64], records: &mut [u32], setting: Setting) -> Counts
     requires { Image setting.shape words.now marks.old × Room setting.capacity records.old 0 }
-    ensures { Sought (search_at setting) setting.capacity words.now marks.old records.old result marks.new
+    ensures { Sought (search_at setting) setting.capacity words.now marks.old records.old (numbers_of result) marks.new
         records.new }
 {
     let shape = setting.shape;

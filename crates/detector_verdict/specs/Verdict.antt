@@ -3,10 +3,28 @@
 use Rattle.std.specs.Prelude.{ℕ, cond, List, [], ltb, eqb, length}
 use Rattle.records.specs.Records.{Record}
 use Rattle.detector_kept.specs.Kept.{ranked}
+use Rattle.detector_verdict.specs.declared.Answer.{Answer}
+use Rattle.detector_verdict.specs.declared.Answer.TheVariants.{Kept, TooMany, NoneFound, NoneKept}
 use Rattle.detector_verdict.specs.declared.Counts.{Counts}
 
+-- the numbers of a report
+pub record Numbers : Type 0 where
+  pub answer : ℕ
+  pub found : ℕ
+  pub kept : ℕ
+
+-- the number of each answer
+abbrev pub number_of : Answer → ℕ
+number_of Kept = 0
+number_of TooMany = 7
+number_of NoneFound = 8
+number_of NoneKept = 9
+
+abbrev pub numbers_of : Counts → Numbers
+numbers_of c = record { answer = number_of c.answer; found = c.found; kept = c.kept }
+
 pub record Verdict : Type 0 where
-  pub counts : Counts
+  pub counts : Numbers
   pub kept : List Record
 
 abbrev pub verdict_of : ℕ → List Record → List Record → Verdict

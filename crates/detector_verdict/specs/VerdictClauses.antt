@@ -3,8 +3,7 @@ use Rattle.std.specs.Prelude.{ℕ, ◌+◌, ◌*◌, ◌≤◌, List, ◌≡◌,
 use Rattle.records.specs.Records.{Record, rows, laid_out}
 use Rattle.records.specs.RecordsClauses.{Each}
 use Rattle.detector_variances.specs.VariancesClauses.{Small}
-use Rattle.detector_verdict.specs.declared.Counts.{Counts}
-use Rattle.detector_verdict.specs.Verdict.{verdict}
+use Rattle.detector_verdict.specs.Verdict.{Numbers, verdict}
 
 -- what `verdict` may assume of the buffer: room for the capacity, at most one candidate more, and small words in those that it holds
 pub record Judgeable (capacity found : ℕ) (records : List ℕ) : Type 0 where
@@ -19,7 +18,7 @@ pub record Holds (capacity found : ℕ) (records : List ℕ) (candidates : List 
   pub stored : found ≤ capacity → rows found records ≡ candidates
 
 -- the counts, and the buffer afterwards: the kept records, zeros up to the capacity, and the rest as it was
-pub record Judged (capacity : ℕ) (candidates : List Record) (before : List ℕ) (r : Counts) (after : List ℕ) : Type 0 where
+pub record Judged (capacity : ℕ) (candidates : List Record) (before : List ℕ) (r : Numbers) (after : List ℕ) : Type 0 where
   pub counts : r ≡ (verdict capacity candidates).counts
   pub laid : after ≡ laid_out capacity (verdict capacity candidates).kept before
   -- so the next step need not take `flat` apart

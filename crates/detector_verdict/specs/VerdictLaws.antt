@@ -6,12 +6,11 @@ use Rattle.records.specs.Records.{Record}
 use Rattle.records.specs.RecordsClauses.{Each}
 use Rattle.detector_kept.specs.Kept.{ranked}
 use Rattle.detector_kept.specs.KeptLaws.{ranked_few}
-use Rattle.detector_verdict.specs.Verdict.{Verdict, verdict_of, verdict}
-use Rattle.detector_verdict.specs.declared.Counts.{Counts}
+use Rattle.detector_verdict.specs.Verdict.{Numbers, Verdict, verdict_of, verdict}
 
 -- the answer is 0, 7, 8 or 9; with 0 some of those found are kept, and no more were found than the capacity; with 7 one more was found, with 8 none, with 9
 -- some within the capacity, and none is kept
-pub record Counted (capacity : ℕ) (c : Counts) : Type 0 where
+pub record Counted (capacity : ℕ) (c : Numbers) : Type 0 where
   pub answers : (c.answer ≡ 0) ⊎ (c.answer ≡ 7) ⊎ (c.answer ≡ 8) ⊎ (c.answer ≡ 9)
   pub zero : c.answer ≡ 0 → (c.found ≤ capacity) × (c.kept ≤ c.found) × (0 < c.kept)
   pub seven : c.answer ≡ 7 → (c.found ≡ capacity + 1) × (c.kept ≡ 0)
@@ -72,7 +71,7 @@ verdict_counted capacity candidates few = by_answer capacity candidates (λ v. C
     })
 
 -- whichever the answer, there is room for the records that are kept
-pub counted_few : {capacity : ℕ} {c : Counts} → Counted capacity c → c.kept ≤ capacity
+pub counted_few : {capacity : ℕ} {c : Numbers} → Counted capacity c → c.kept ≤ capacity
 counted_few {capacity} {c} counted =
     ⊎_elim (λ e. omega (arith, counted.zero e))
     (⊎_elim (λ e. omega (arith, counted.seven e)) (⊎_elim (λ e. omega (arith, counted.eight e)) (λ e. omega (arith, counted.nine e)))) counted.answers

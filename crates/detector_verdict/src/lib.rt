@@ -3,17 +3,41 @@
 
 ghost use Rattle.std.specs.Prelude.{List, ◌^◌, ◌<◌, ◌≡◌};
 ghost use Rattle.records.specs.Records.{Record};
+ghost use Rattle.detector_verdict.specs.Verdict.{number_of, numbers_of};
 ghost use Rattle.detector_verdict.specs.VerdictClauses.{Judgeable, Holds, Judged};
+
+// What a search answers: some candidates are kept, or why none is.
+#[derive(Clone, Copy, PartialEq, Eq)]
+pub enum Answer {
+    Kept,
+    TooMany,
+    NoneFound,
+    NoneKept,
+}
+
+// The numbers that hosts read.
+impl From<Answer> for u32 {
+    ghost from_gives = { λ answer n. n ≡ number_of answer };
+
+    fn from(answer: Answer) -> u32 {
+        match answer {
+            Answer::Kept => 0,
+            Answer::TooMany => 7,
+            Answer::NoneFound => 8,
+            Answer::NoneKept => 9,
+        }
+    }
+}
 
 // What a search reports: its answer, the sweep's candidates, and those kept.
 #[derive(Clone, Copy)]
 pub struct Counts {
-    pub answer: u32,
+    pub answer: Answer,
     pub found: u32,
     pub kept: u32,
 }
 
-fn counted(answer: u32, found: usize, kept: usize) -> Counts
+fn counted(answer: Answer, found: usize, kept: usize) -> Counts
     requires { (found < 2 ^ 32) × (kept < 2 ^ 32) }
     ensures { result ≡ record { answer = answer; found = found; kept = kept } }
 {
@@ -28,18 +52,18 @@ fn counted(answer: u32, found: usize, kept: usize) -> Counts
 pub fn verdict(records: &mut [u32], found: usize, capacity: usize) -> Counts
     requires { Judgeable capacity found records.old }
     ensures { (candidates : List Record) → Holds capacity found records.old candidates
-        → Judged capacity candidates records.old result records.new }
+        → Judged capacity candidates records.old (numbers_of result) records.new }
 {
     if found > capacity {
         records::clear(records, 0, 40 * capacity);
-        return counted(7, found, 0);
+        return counted(Answer::TooMany, found, 0);
     }
     let kept = detector_kept::keep_and_rank(records, found, capacity);
     if found == 0 {
-        return counted(8, found, 0);
+        return counted(Answer::NoneFound, found, 0);
     }
     if kept == 0 {
-        return counted(9, found, 0);
+        return counted(Answer::NoneKept, found, 0);
     }
-    counted(0, found, kept)
+    counted(Answer::Kept, found, kept)
 }

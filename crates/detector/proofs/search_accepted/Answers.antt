@@ -13,7 +13,7 @@ use Rattle.bit_matrix.specs.ShapeLaws.{image_kept}
 use Rattle.marks.specs.Marks.{ones_of}
 use Rattle.records.specs.Records.{capacity_of, laid_out}
 use Rattle.detector_candidates.specs.CandidatesClauses.{Room}
-use Rattle.detector_verdict.specs.declared.Counts.{Counts}
+use Rattle.detector_verdict.specs.Verdict.{Numbers}
 use Rattle.detector_search.specs.Search.{search_at}
 use Rattle.detector_search.specs.SearchClauses.{Sought}
 use Rattle.detector.specs.Detector.{run, report_of, steps, accepted_run}
@@ -25,7 +25,7 @@ room_of : {records : List ℕ} {capacity : ℕ} → capacity ≡ capacity_of (le
 room_of is = record { few = omega arith; most = omega (arith, is); held = omega (arith, is) }
 
 -- the marks cleared, the search run from there, and the marks counted
-accepted_by : (shape : Shape) (ellipse : Bool) {words marks cleared records marks' records' : List ℕ} {capacity n : ℕ} {c : Counts} {r : Report}
+accepted_by : (shape : Shape) (ellipse : Bool) {words marks cleared records marks' records' : List ℕ} {capacity n : ℕ} {c : Numbers} {r : Report}
     → Image shape words marks
     → cleared ≡ zeros (length marks) → capacity ≡ capacity_of (length records)
     → Sought (search_at (record { shape = shape; capacity = capacity; ellipse = ellipse })) capacity words cleared records c marks' records'

@@ -9,13 +9,13 @@ loop-i-init c = search begins
 
 pub loop-i-preserved : goal.loop-i-preserved
 loop-i-preserved c =
-    let same = c.load-record.ensures in
+    let are = c.front-candidates.ensures.0 in
     elim c.if-is_near.branch [
       | then-is_near w ↦
           rw (w.records-is, w.kept-is)
-          (taken c.loop-i.invariant c.loop-i-test.true c.load-record.result same (sym c.is_near.ensures ∙ w.if-is_near.true) w.store.new.records w.store.ensures w.store.auto.records)
+          (taken c.loop-i.invariant c.loop-i-test.true _ are (sym c.is_near.ensures ∙ w.if-is_near.true) w.copy.new.records w.copy.ensures w.copy.auto.records)
       | else-is_near w ↦
-          rw (w.records-is, w.kept-is) (retained_passed c.loop-i.invariant c.loop-i-test.true c.load-record.result same (sym c.is_near.ensures ∙ w.if-is_near.false))
+          rw (w.records-is, w.kept-is) (retained_passed c.loop-i.invariant c.loop-i-test.true _ are (sym c.is_near.ensures ∙ w.if-is_near.false))
     ]
 
 pub returns : goal.returns

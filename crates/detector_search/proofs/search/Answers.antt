@@ -11,7 +11,10 @@ pub returns-then-kept-eq0 : goal.returns-then-kept-eq0
 returns-then-kept-eq0 c = search none_kept
 
 pub box_kept-requires : goal.box_kept-requires
-box_kept-requires c = search (image_kept, boxable)
+box_kept-requires c = (
+  search image_kept,
+  boxable c.args.setting c.requires.0 c.requires.1 c.find_concentric_circles-found.ensures c.verdict-counts.ensures (search rules) (search rules),
+)
 
 pub returns : goal.returns
 returns c =

@@ -1,5 +1,5 @@
 -- `detector_verdict::verdict` meets its contract: one lemma for each answer.
-use borrow.Author.Rules.{rules}
+use Rattle.std.proofs.Common.{rules}
 use Rattle.detector_verdict.proofs.Judging.{kept_requires, too_many, none_found, set_aside, some_kept}
 use Rattle.detector_verdict.proofs.verdict.Goals as goal
 
