@@ -3,12 +3,13 @@
 
 ghost use Rattle.std.specs.Prelude.{◌≡◌, ◌≤◌, length};
 ghost use Rattle.bit_matrix.specs.ShapeClauses.{Image};
+ghost use Rattle.crop_sizes.specs.Refusals.{number_of};
 ghost use Rattle.crop.specs.CropClauses.{Checks};
 ghost use Rattle.detector_verdict.specs.Verdict.{numbers_of};
 ghost use Rattle.detector.specs.Detector.{run, report_of, refused_report, accepted_run, words_run, filed, file_run};
 
 use bit_matrix::Shape;
-use crop::Checked;
+use crop_sizes::Refusal;
 use detector_search::Setting;
 use detector_verdict::Counts;
 
@@ -33,14 +34,16 @@ fn report_of(counts: Counts, marked: u32) -> Report
     }
 }
 
-fn refused(answer: u32) -> Report
-    ensures { result ≡ refused_report answer }
-{
-    Report {
-        answer,
-        found: 0,
-        kept: 0,
-        marked: 0,
+impl From<Refusal> for Report {
+    ghost from_gives = { λ refusal report. report ≡ refused_report (number_of refusal) };
+
+    fn from(refusal: Refusal) -> Report {
+        Report {
+            answer: refusal.into(),
+            found: 0,
+            kept: 0,
+            marked: 0,
+        }
     }
 }
 
@@ -79,23 +82,16 @@ pub fn search_words(
     ensures { run result records.new marks.new
         ≡ words_run words.now width height records.old marks.old ellipse }
 {
-    let answer = crop::words_refusal(words, width, height, marks.len(), records.len());
-    if answer != 0 {
-        return refused(answer);
+    match crop::words_refusal(words, width, height, marks.len(), records.len()) {
+        Ok(shape) => search_accepted(words, shape, records, marks, ellipse),
+        Err(refusal) => refusal.into(),
     }
-    search_accepted(
-        words,
-        crop_sizes::shape_of(width, height),
-        records,
-        marks,
-        ellipse,
-    )
 }
 
 // The search of a crop file that was checked, with words to unpack it into: what `search_file` and the program have in common. It is no entry.
 pub fn search_checked(
     file: &[u8],
-    checked: Checked,
+    checked: Result<Shape, Refusal>,
     words: &mut [u64],
     records: &mut [u32],
     marks: &mut [u64],
@@ -105,13 +101,13 @@ pub fn search_checked(
     ensures { filed words.new (run result records.new marks.new)
         ≡ file_run file.now words.old records.old marks.old ellipse }
 {
-    let answer = crop::file_refusal(checked, words.len(), marks.len(), records.len());
-    if answer != 0 {
-        return refused(answer);
+    match crop::file_refusal(checked, words.len(), marks.len(), records.len()) {
+        Ok(shape) => {
+            crop_rows::unpack_rows(file, shape, words);
+            search_accepted(words, shape, records, marks, ellipse)
+        }
+        Err(refusal) => refusal.into(),
     }
-    let shape = checked.shape;
-    crop_rows::unpack_rows(file, shape, words);
-    search_accepted(words, shape, records, marks, ellipse)
 }
 
 // The search of a crop file, with words to unpack it into.

@@ -1,7 +1,7 @@
 // What the Rust host calls. A slice crosses as its pointer and its length, a report as a C struct of four u32, an option as a u32: 0 is off, any other on.
 #![tactic(auto)]
 
-ghost use Rattle.std.specs.Prelude.{◌≡◌, length};
+ghost use Rattle.std.specs.Prelude.{MatchResult, ◌≡◌, length};
 ghost use Rattle.crop.specs.Crop.{refusal, Unpacks};
 ghost use Rattle.text.specs.Text.{Puts};
 ghost use Rattle.text_run.specs.RunText.{fitting_text};
@@ -12,12 +12,22 @@ ghost use Rattle.tunnel.specs.Options.{is_on};
 
 use detector::Report;
 
+// The number that an entry answers: 0, or that of what went wrong.
+fn answer<E: Into<u32>>(outcome: Result<(), E>) -> u32
+    ensures { MatchResult outcome (λ done. result ≡ 0) (λ e. E.converts e result) }
+{
+    match outcome {
+        Ok(()) => 0,
+        Err(e) => e.into(),
+    }
+}
+
 // The first of the numbers 1 to 5 that names what is wrong with a crop file, or 0.
 #[unsafe(no_mangle)]
 pub extern "C" fn maxicode_check(file: &[u8]) -> u32
     ensures { result ≡ refusal file.now }
 {
-    crop::check(file)
+    answer(crop::check(file))
 }
 
 // The words of a crop file into a lent buffer, which is written only when the answer is 0.
@@ -25,7 +35,7 @@ pub extern "C" fn maxicode_check(file: &[u8]) -> u32
 pub extern "C" fn maxicode_unpack(file: &[u8], words: &mut [u64]) -> u32
     ensures { Unpacks file.now words.old result words.new }
 {
-    crop::unpack(file, words)
+    answer(crop::unpack(file, words))
 }
 
 // The search of an image in words, with the ellipse check on or off.
@@ -69,7 +79,7 @@ pub extern "C" fn maxicode_cells_words(
 ) -> u32
     ensures { cells_run result cells.new ≡ words_cells words.now width height cells.old }
 {
-    cells::cells_words(words, width, height, cells)
+    answer(cells::cells_words(words, width, height, cells))
 }
 
 // The cells of a crop file, with words to unpack it into, which are written with answer 10 too.
@@ -78,7 +88,7 @@ pub extern "C" fn maxicode_cells_file(file: &[u8], words: &mut [u64], cells: &mu
     ensures { filed_cells words.new (cells_run result cells.new)
         ≡ file_cells file.now words.old cells.old }
 {
-    cells::cells_file(file, words, cells)
+    answer(cells::cells_file(file, words, cells))
 }
 
 // The lines of a run as text in a lent buffer, and how long they are. A buffer of less than 80 + 200 * kept bytes, or fewer records lent than kept: nothing
