@@ -66,8 +66,8 @@ fn axis_of(records: &[u32], found: usize, axis: usize) -> Axis
     let mean = (total_of(records, found, axis) as f64) / n;
     let dev = ieee_sqrt::sqrt_f64(squares_of(records, found, axis, mean) / n);
     Axis {
-        dev: ieee::saturating_f64_to_u32(dev),
-        mean: ieee::saturating_f64_to_u32(mean),
+        dev: std::num::saturating_f64_to_u32(dev),
+        mean: std::num::saturating_f64_to_u32(mean),
     }
 }
 

@@ -91,7 +91,7 @@ pub fn rotation_bits(outcome: Outcome) -> u32
     ensures { result ≡ rotation_bits outcome }
 {
     match outcome {
-        Outcome::Turned(rotation) => ieee::bits_of_f32(rotation),
+        Outcome::Turned(rotation) => std::num::f32_to_bits_with_nan(rotation),
         Outcome::NoTurn => 0,
         Outcome::LostCentre => 0,
         Outcome::Ellipse => 0,
