@@ -74,8 +74,8 @@ fn axis_of(candidates: &[[u32; 40]], field: usize) -> Axis
     let mean = (total_of(candidates, field) as f64) / n;
     let dev = ieee_sqrt::sqrt_f64(squares_of(candidates, field, mean) / n);
     Axis {
-        dev: ieee::saturating_f64_to_u32(dev),
-        mean: ieee::saturating_f64_to_u32(mean),
+        dev: std::num::saturating_f64_to_u32(dev),
+        mean: std::num::saturating_f64_to_u32(mean),
     }
 }
 

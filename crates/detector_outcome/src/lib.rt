@@ -33,7 +33,7 @@ impl Outcome {
         match self {
             Outcome::Turned { degree, .. } => {
                 let rotation = std::num::nearest_u32_to_f32(degree);
-                ieee::bits_of_f32(rotation)
+                std::num::f32_to_bits_with_nan(rotation)
             }
             Outcome::NoTurn | Outcome::LostCentre { .. } | Outcome::Ellipse => 0,
         }

@@ -21,8 +21,8 @@ fn store_corner(fields: &mut [u32; 40], at: usize, p: Point)
     requires { at < 39 }
     ensures { fields.new ≡ sets fields.old at (corner_words p) }
 {
-    fields[at] = ieee::bits_of_f32(p.x);
-    fields[at + 1] = ieee::bits_of_f32(p.y);
+    fields[at] = std::num::f32_to_bits_with_nan(p.x);
+    fields[at + 1] = std::num::f32_to_bits_with_nan(p.y);
 }
 
 // A symbol's words in a record, from its outcome on.

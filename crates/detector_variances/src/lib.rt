@@ -19,7 +19,7 @@ fn variance_bits(records: &[u32], i: usize) -> u32
         &records[row..column],
         &records[column..end],
     );
-    ieee::bits_of_f32(variance)
+    std::num::f32_to_bits_with_nan(variance)
 }
 
 // The variance of each of the first records, into its own word.

@@ -2,6 +2,7 @@
 -- one, by `RoundedOrderLaws`.
 pub mod Widths
 pub mod WidthsF32
+pub mod RunsPass
 pub mod Buckets
 pub mod RoundedOrderLaws
 pub mod SameTestLaws

@@ -2,64 +2,46 @@
 // equal to the source's f32 test (`same_widths`, specs/SameWidthsLaws.antt).
 #![tactic(auto)]
 
-ghost use Rattle.std.specs.Prelude.{◌≡◌, ◌^◌, ◌<◌};
-ghost use Rattle.detector_widths.specs.Widths.{at, passes, even_runs_pass, odd_runs_pass, valid_widths};
+ghost use Rattle.std.specs.Prelude.{◌≡◌, ◌^◌, ◌<◌, ◌≤◌, sum};
+ghost use Rattle.detector_widths.specs.Widths.{passes, valid_widths};
+ghost use Rattle.detector_widths.specs.RunsPass.{runs_pass};
 
-// The cast apart from the read, so that no proof is asked that the element fits.
-fn wide(x: u32) -> u64
-    ensures { (result ≡ x) × (result < 2 ^ 32) }
+// Whether a run passes among runs of this total, in 64 bits: sums and multiples of runs can pass 2^32.
+fn passes(total: u64, run: u32) -> bool
+    requires { total < 2 ^ 35 }
+    ensures { result ≡ passes total run }
 {
-    x as u64
+    let run = u64::from(run);
+    (total < 10 * run) & (10 * run < 3 * total)
 }
 
-// Run i, in 64 bits: sums and multiples of runs can pass 2^32.
-fn run(buckets: &[u32; 11], i: usize) -> u64
-    requires { i < 11 }
-    ensures { (result ≡ at buckets.now i) × (result < 2 ^ 32) }
+// The sum of some runs.
+fn total<const N: usize>(runs: &[u32; N]) -> u64
+    requires { N ≤ 6 }
+    ensures { (result ≡ sum runs.now) × (result < 2 ^ 35) }
 {
-    wide(buckets[i])
+    let mut total = 0;
+    for run in runs {
+        total += u64::from(*run);
+    }
+    total
 }
 
-// Whether run i passes among runs of this total.
-fn run_passes(buckets: &[u32; 11], i: usize, total: u64) -> bool
-    requires { (i < 11) × (total < 2 ^ 35) }
-    ensures { result ≡ passes total (at buckets.now i) }
+// Whether each of some runs passes among runs of this total. No test ends it early: `&` makes no branch for a run.
+fn runs_pass<const N: usize>(total: u64, runs: &[u32; N]) -> bool
+    requires { total < 2 ^ 35 }
+    ensures { result ≡ runs_pass total runs.now }
 {
-    let b = run(buckets, i);
-    (total < 10 * b) & (10 * b < 3 * total)
+    runs.iter()
+        .fold(true, |good, run| good & passes(total, *run))
 }
 
-fn even_runs_pass(buckets: &[u32; 11]) -> bool
-    ensures { result ≡ even_runs_pass buckets.now }
-{
-    let total = run(buckets, 0)
-        + run(buckets, 2)
-        + run(buckets, 4)
-        + run(buckets, 6)
-        + run(buckets, 8)
-        + run(buckets, 10);
-    run_passes(buckets, 0, total)
-        & run_passes(buckets, 2, total)
-        & run_passes(buckets, 4, total)
-        & run_passes(buckets, 6, total)
-        & run_passes(buckets, 8, total)
-        & run_passes(buckets, 10, total)
-}
-
-// Run 5 is free.
-fn odd_runs_pass(buckets: &[u32; 11]) -> bool
-    ensures { result ≡ odd_runs_pass buckets.now }
-{
-    let total = run(buckets, 1) + run(buckets, 3) + run(buckets, 7) + run(buckets, 9);
-    run_passes(buckets, 1, total)
-        & run_passes(buckets, 3, total)
-        & run_passes(buckets, 7, total)
-        & run_passes(buckets, 9, total)
-}
-
-// Whether the even runs pass, and the odd ones but run 5.
+// Whether the even runs pass, and the odd ones but run 5, which is free.
 pub fn validate_bullseye_widths(buckets: &[u32; 11]) -> bool
     ensures { result ≡ valid_widths buckets.now }
 {
-    even_runs_pass(buckets) && odd_runs_pass(buckets)
+    let [r0, r1, r2, r3, r4, _, r6, r7, r8, r9, r10] = *buckets;
+    let even = [r0, r2, r4, r6, r8, r10];
+    let odd = [r1, r3, r7, r9];
+    runs_pass(total(&even), &even) && runs_pass(total(&odd), &odd)
 }

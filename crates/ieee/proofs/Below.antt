@@ -1,18 +1,34 @@
 -- The whole part of a value of binary32 below 2 ^ 28, in the bit pattern of 2 ^ 28 more at binary64. And the sign, cleared in the pattern. Assumes nothing.
-use Rattle.std.proofs.Common.{◌≡◌, ℕ, zero, suc, ◌+◌, ◌-◌, ◌*◌, ◌/◌, ◌%◌, ◌^◌, ◌<◌, ◌≤◌, Bool, true, false, cond, not, ◌&&◌, T, ℤ, pos, negsuc, sym, refl, ap, ◌∙◌, subst, ⊎_elim, le_trans, le_of_eq, lt_of_lt_of_le, mod-lt, mul_assoc, div-lt_iff_lt-mul, mul-lt-mul_of_pos_right, le-div_iff_mul-le, mul_right_comm, le_of_mul-le-mul_right, arith, ltb→lt, pow_pos, pow_mono, pow-add, shl_lt}
-use native.Mathlib.Nat.{eq_of_mul-eq-mul_right}
+use Rattle.std.proofs.Common.{◌≡◌, ℕ, zero, suc, ◌+◌, ◌-◌, ◌*◌, ◌/◌, ◌%◌, ◌^◌, ◌<◌, ◌≤◌, Bool, true, false, cond, not, T, ℤ, pos, negsuc, sym, refl, ap, ◌∙◌, subst, ⊎_elim, le_trans, le_of_eq, lt_of_lt_of_le, mod-lt, mul_assoc, div-lt_iff_lt-mul, mul-lt-mul_of_pos_right, le-div_iff_mul-le, mul_right_comm, le_of_mul-le-mul_right, arith, ltb→lt, pow_pos, pow_mono, pow-add, shl_lt, mul-le-mul_right, lt_of_mul-lt-mul_right, lt_of_le_of_lt}
+use Rattle.std.proofs.Math.Nat.{eq_of_mul-eq-mul_right}
 use lib.Ieee.{Float, nan, inf, fin, Format, binary32, binary64, prec, low, hid, up, down}
 use lib.Ieee.{round, sum, add, lt, le, fits, is_nan, nan_bits, of_bits, to_bits, to_unsigned}
 use lib.Ieee.Bits.{of_bits-to_bits, to_bits-lt, nan_bits_is}
 use lib.Ieee.Exact.{HasValue, round_exact}
-use lib.Ieee.Fits.{two, reach, down_pos, add-fits, fits_widens, and_i}
+use lib.Ieee.Fits.{two, reach, down_pos, add-fits}
 use lib.Ieee.Order.{round_mono}
 use lib.Ieee.Positive.{positive, num, den, den_pos, own_value, positive_of_value, values_of_le, between, value→cross}
 use Rattle.ieee.specs.Sign.{abs}
-use Rattle.ieee.proofs.Numbers.{le_or_lt}
 use Rattle.ieee.proofs.Bounds.{bounds}
 use Rattle.ieee.proofs.Fields.{digits, places, InFields, plain_fields, positive_not_nan}
-use Rattle.ieee.proofs.WholePart.{below_power, above_power}
+use Rattle.ieee.proofs.Numbers.{le_or_lt, exponent_lt}
+
+-- ---- numbers: a / c is d * 2 ^ h units of 2 ^ -l
+module _ (a c d h l : ℕ) (p : 0 < c) (value : a * 2 ^ l ≡ d * 2 ^ h * c) where
+  below_power : (n w : ℕ) → 2 ^ n ≤ d → a < 2 ^ w * c → n + h < w + l
+  below_power n w many less =
+      let scaled : d * 2 ^ h * c < 2 ^ w * 2 ^ l * c =
+      subst (λ (k : ℕ). k < 2 ^ w * 2 ^ l * c) value
+      (lt_of_lt_of_le (mul-lt-mul_of_pos_right less (pow_pos l)) (le_of_eq (mul_right_comm (2 ^ w) c (2 ^ l)))) in
+      let units : 2 ^ n * 2 ^ h < 2 ^ w * 2 ^ l = lt_of_le_of_lt (mul-le-mul_right (2 ^ h) many) (lt_of_mul-lt-mul_right c scaled) in
+      exponent_lt (n + h) (w + l) (rw (pow-add 2 n h, pow-add 2 w l) units)
+
+  above_power : (n v : ℕ) → d < 2 ^ n → 2 ^ v * c ≤ a → v + l < n + h
+  above_power n v few more =
+      let scaled : 2 ^ v * 2 ^ l * c ≤ d * 2 ^ h * c =
+      le_trans (le_of_eq (mul_right_comm (2 ^ v) (2 ^ l) c)) (le_trans (mul-le-mul_right (2 ^ l) more) (le_of_eq value)) in
+      let units : 2 ^ v * 2 ^ l < 2 ^ n * 2 ^ h = lt_of_le_of_lt (le_of_mul-le-mul_right scaled p) (mul-lt-mul_of_pos_right few (pow_pos h)) in
+      exponent_lt (v + l) (n + h) (rw (pow-add 2 v l, pow-add 2 n h) units)
 
 -- ---- numbers: m / d, with an m of 24 digits, lies 2 ^ -24 or more below the next whole number
 gap : (m d : ℕ) → 0 < d → m < 2 ^ 24 → m * 2 ^ 24 + d ≤ (m / d + 1) * 2 ^ 24 * d
@@ -119,8 +135,8 @@ unfolding to_bits
 signed_bits true m e = grouped (2 ^ 31) _ _
 signed_bits false m e = grouped 0 _ _
 
-cleared : (s : Bool) (m : ℕ) (e : ℤ) → T (fits binary32 (fin s m e)) → to_bits binary32 (fin s m e) % 2 ^ 31 ≡ to_bits binary32 (fin false m e)
-cleared s m e t = go s
+sign_off : (s : Bool) (m : ℕ) (e : ℤ) → T (fits binary32 (fin s m e)) → to_bits binary32 (fin s m e) % 2 ^ 31 ≡ to_bits binary32 (fin false m e)
+sign_off s m e t = go s
   where
     room : to_bits binary32 (fin false m e) < 2 ^ 31
     room = omega (arith, to_bits-lt binary32 (fin true m e) (resigned s true m e t), signed_bits true m e)
@@ -129,15 +145,28 @@ cleared s m e t = go s
     go true = omega (arith, room, signed_bits true m e)
     go false = omega (arith, room)
 
+pub cleared_abs : (x : Float) → T (fits binary32 x) → T (not (is_nan x)) → of_bits binary32 (to_bits binary32 x % 2 ^ 31) ≡ abs x
+unfolding abs is_nan
+cleared_abs nan t h = absurd h
+cleared_abs (inf true) t h = unfold to_bits of_bits in refl
+cleared_abs (inf false) t h = unfold to_bits of_bits in refl
+cleared_abs (fin s m e) t h = ap (of_bits binary32) (sign_off s m e t) ∙ of_bits-to_bits binary32 (fin false m e) (resigned s false m e t)
+
+abs_number : (x : Float) → T (not (is_nan x)) → T (not (is_nan (abs x)))
+unfolding abs is_nan
+abs_number nan h = absurd h
+abs_number (inf s) h = tt
+abs_number (fin s m e) h = tt
+
+pub cleared_number : (x : Float) → T (fits binary32 x) → T (not (is_nan x)) → T (not (nan_bits binary32 (to_bits binary32 x % 2 ^ 31)))
+cleared_number x t h = subst (λ (b : Bool). T (not b)) (sym (nan_bits_is binary32 _ ∙ ap is_nan (cleared_abs x t h))) (abs_number x h)
+
 -- ---- what the program meets on its way
 abbrev pub more : Float → Float
 more y = add binary64 y (fin false 1 (pos 28))
 
 pub record Below (x : Float) : Type 0 where
   pub number : T (not (is_nan x))
-  pub cleared_number : T (not (nan_bits binary32 (to_bits binary32 x % 2 ^ 31)))
-  pub is_abs : of_bits binary32 (to_bits binary32 x % 2 ^ 31) ≡ abs x
-  pub abs_wider : T (fits binary64 (abs x) && not (is_nan (abs x)))
   pub more_number : T (not (is_nan (more (abs x))))
   pub whole : to_bits binary64 (more (abs x)) / 2 ^ 24 % 2 ^ 28 ≡ to_unsigned 32 (abs x)
 
@@ -153,13 +182,8 @@ below (fin s m e) t h =
     let under : n * d ≤ m * up e = (le-div_iff_mul-le (down_pos e)).0 (omega arith) in
     let y = more (fin false m e) in
     let is : Pinned n y = pinned n (m * up e) d (down_pos e) small under (below_next m e (bounds binary32 s m e t).digits) in
-    let same = cleared s m e t in
-    let back = ap (of_bits binary32) same ∙ of_bits-to_bits binary32 (fin false m e) (resigned s false m e t) in
     record {
       number = tt;
-      cleared_number = subst (λ (b : Bool). T (not b)) (sym (nan_bits_is binary32 _ ∙ ap is_nan back)) tt;
-      is_abs = back;
-      abs_wider = and_i (fits binary64 (fin false m e)) true (fits_widens (fin false m e) (resigned s false m e t)) tt;
       more_number = positive_not_nan y is.above;
       whole = in_digits n y (add-fits binary64 (fin false m e) (fin false 1 (pos 28))) small is ∙ omega arith;
     }

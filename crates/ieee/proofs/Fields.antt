@@ -1,23 +1,11 @@
 -- The digits and the exponent of a positive finite value, in units of the format's smallest value, as they stand in its bit pattern. Assumes nothing.
-use Rattle.std.proofs.Common.{◌≡◌, ℕ, zero, suc, ◌+◌, ◌*◌, ◌/◌, ◌%◌, ◌^◌, ◌<◌, Bool, true, false, cond, not, T, eqb, leb, ◌≢◌, pos, sym, refl, ap, subst, mod-eq_of_lt, mul-one, arith, ltb→lt, lt→ltb, pow_pos}
-use lib.Dec.{nleb→lt}
-use lib.Ieee.{Float, nan, inf, fin, Format, binary64, prec, low, up, down, hid, ones, top, odd, lt, fits, is_nan, of_fields, of_bits, to_bits}
+use Rattle.std.proofs.Common.{◌≡◌, ℕ, zero, suc, ◌+◌, ◌*◌, ◌/◌, ◌%◌, ◌^◌, ◌<◌, Bool, true, false, cond, not, T, eqb, leb, sym, refl, ap, subst, mod-eq_of_lt, arith}
+use Rattle.std.proofs.Math.Dec.{nleb→lt}
+use lib.Ieee.{Float, nan, inf, fin, Format, prec, low, hid, ones, top, odd, fits, is_nan, of_fields, of_bits, to_bits}
 use lib.Ieee.Exact.{HasValue, odd_sign}
 use lib.Ieee.Bits.{of_bits-to_bits}
-use lib.Ieee.Positive.{positive, value_pos}
+use lib.Ieee.Positive.{positive}
 use borrow.Author.Tests.{eqb-false}
-use Rattle.ieee.specs.Units.{units_of}
-use Rattle.ieee.proofs.Units.{units_of_value}
-
--- ---- what a program's tests say: x is above 0 and below the infinity
-pub is_positive : (x : Float) → T (lt (fin false 0 (pos 0)) x) → T (lt x (inf false)) → T (positive x)
-unfolding lt
-is_positive nan p q = absurd p
-is_positive (inf true) p q = absurd p
-is_positive (inf false) p q = absurd q
-is_positive (fin true m e) p q = absurd p
-is_positive (fin false zero e) p q = absurd (omega (arith, ltb→lt (0 * 1 * down e) (0 * up e * 1) p))
-is_positive (fin false (suc m) e) p q = lt→ltb 0 (suc m) (omega arith)
 
 pub positive_not_nan : (x : Float) → T (positive x) → T (not (is_nan x))
 unfolding is_nan
@@ -86,31 +74,3 @@ plain_fields f x fit p =
       unsigned = unsigned;
       fields = subst (λ (t : Bool). InFields f x t (b / hid f) (b % hid f)) plus (subst (λ (y : ℕ). InFields f x s y (b % hid f)) field is);
     }
-
-pub record Pattern (x : Float) (b : ℕ) : Type 0 where
-  pub bound : b < 2047 * 2 ^ 52
-  pub small : b / 2 ^ 52 ≡ 0 → (b * 1 ≡ units_of binary64 x) × (0 < b)
-  pub large : (h : ℕ) → b / 2 ^ 52 ≡ suc h → (2 ^ 52 + b % 2 ^ 52) * 2 ^ h ≡ units_of binary64 x
-
-pub pattern : (x : Float) → T (fits binary64 x) → T (positive x) → Pattern x (to_bits binary64 x)
-pattern x fit p = go (to_bits binary64 x) (plain_fields binary64 x fit p)
-  where
-    go : (b : ℕ) → PlainFields binary64 x b → Pattern x b
-    go b is = record {
-      bound = omega (arith, is.unsigned, not_all_ones);
-      small = λ z. (sym (units_of_value binary64 x false (b * 1) (low_value z)), value_pos x b (2 ^ 1074) p (pow_pos 1074) (low_plus z));
-      large = λ h e. sym (units_of_value binary64 x false ((2 ^ 52 + b % 2 ^ 52) * 2 ^ h) (high_value h e));
-    }
-      where
-        not_all_ones : b / 2 ^ 52 ≢ 2047
-        not_all_ones = is.fields.below
-
-        high_value : (h : ℕ) → b / 2 ^ 52 ≡ suc h → HasValue x false ((2 ^ 52 + b % 2 ^ 52) * 2 ^ h) (2 ^ 1074)
-        high_value h e = (subst (λ (y : ℕ). InFields binary64 x false y (b % 2 ^ 52)) e is.fields).value
-
-        low_value : b / 2 ^ 52 ≡ 0 → HasValue x false (b * 1) (2 ^ 1074)
-        low_value z = subst (λ (k : ℕ). HasValue x false (k * 1) (2 ^ 1074)) (omega arith)
-            (subst (λ (y : ℕ). InFields binary64 x false y (b % 2 ^ 52)) z is.fields).value
-
-        low_plus : b / 2 ^ 52 ≡ 0 → HasValue x false b (2 ^ 1074)
-        low_plus z = subst (λ (k : ℕ). HasValue x false k (2 ^ 1074)) (mul-one b) (low_value z)

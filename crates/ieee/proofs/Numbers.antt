@@ -1,7 +1,7 @@
 -- Natural numbers: one of two orders, powers of two, squares. Assumes nothing.
 use Rattle.std.proofs.Common.{◌≡◌, ℕ, ◌+◌, ◌*◌, ◌^◌, ◌<◌, ◌≤◌, Bool, true, false, not, T, leb, ◌⊎◌, inl, inr, ⊎_elim, lt_of_lt_of_le, lt_irrefl, mul-le-mul, arith, leb→le, pow_mono}
-use lib.Dec.{nleb→lt}
-use lib.Pow.{pow-lt}
+use Rattle.std.proofs.Math.Dec.{nleb→lt}
+use Rattle.std.proofs.Math.Pow.{pow-lt}
 
 pub le_or_lt : (i j : ℕ) → (i ≤ j) ⊎ (j < i)
 le_or_lt i j = go (leb i j) (leb→le i j) (nleb→lt i j)

@@ -1,11 +1,7 @@
 -- A quotient rounded to the nearest whole number, `lib.Ieee.Nearest.closest`, by its whole part and its rest. Nothing here is about floats. Assumes nothing.
-use Prim.Native.Nat.{ℕ, zero, suc, ◌+◌, ◌-◌, ◌*◌, ◌/◌, ◌%◌, ◌≤◌, ◌<◌, compare, Ordering}
-use native.Mathlib.Nat.{le_of_eq, le_of_lt}
-use native.Mathlib.Omega.{arith}
-use mathlib.Core.Path.{◌≡◌, refl, sym, ap, ◌∙◌}
-use mathlib.Core.Bool.{not}
-use mathlib.Core.Logic.{◌⊎◌, inl, inr}
-use lib.Dec.{T, is_le, compare_is_eq, leb→le, nleb→lt, eqb→eq}
+use Rattle.std.proofs.Common.{ℕ, zero, suc, ◌+◌, ◌-◌, ◌*◌, ◌/◌, ◌%◌, ◌≤◌, ◌<◌, le_of_eq, le_of_lt, arith, ◌≡◌, refl, sym, ap, ◌∙◌, not, ◌⊎◌, inl, inr, T, leb→le, eqb→eq}
+use Prim.Native.Nat.{compare, Ordering}
+use lib.Dec.{is_le, compare_is_eq, nleb→lt}
 use lib.Arith.{digits_div, digits_mod}
 use lib.Ieee.{nearest}
 use lib.Ieee.Nearest.{closest}

@@ -1,8 +1,7 @@
 -- Where n is m * c * c, the whole part of its root lies from g * c to (g + 1) * c, g the whole part of m's root.
 -- Nothing here is about floats. Assumes nothing.
-use Prim.Native.Nat.{ℕ, ◌+◌, ◌*◌, ◌≤◌, ◌<◌}
-use native.Mathlib.Nat.{le_trans, lt_of_lt_of_le, lt_of_le_of_lt, le_of_eq, mul-le-mul_right, mul-lt-mul_of_pos_right, mul-pos, eq_of_mul-eq-mul_right}
-use mathlib.Core.Path.{◌≡◌, sym, ◌∙◌}
+use Rattle.std.proofs.Common.{ℕ, ◌+◌, ◌*◌, ◌≤◌, ◌<◌, le_trans, lt_of_lt_of_le, lt_of_le_of_lt, le_of_eq, mul-le-mul_right, mul-lt-mul_of_pos_right, mul-pos, ◌≡◌, sym, ◌∙◌}
+use Rattle.std.proofs.Math.Nat.{eq_of_mul-eq-mul_right}
 use Rattle.ieee_sqrt.specs.IsqrtLaws.{IsRoot, root_at_least}
 use Rattle.ieee.proofs.Numbers.{square_mul, lt_of_square_lt}
 

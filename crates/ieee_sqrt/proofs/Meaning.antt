@@ -1,13 +1,7 @@
 -- `sqrt` is correctly rounded, in both formats (`sqrt_means`; `specs/CorrectlyRounded.antt` says what that is), and nothing else is (`root_unique`).
 -- Assumes nothing.
-use Prim.Native.Nat.{ℕ, suc, ◌+◌, ◌-◌, ◌*◌, ◌/◌, ◌^◌, ◌≤◌, ◌<◌}
-use native.Mathlib.Nat.{le_trans, le_of_eq, le_antisymm, pow-succ'}
-use native.Mathlib.Omega.{arith}
-use mathlib.Core.Path.{◌≡◌, sym, ap, ◌∙◌, subst}
-use mathlib.Core.Bool.{false}
-use mathlib.Core.Logic.{◌⊎◌, ⊎_elim}
-use lib.Dec.{T}
-use lib.Pow.{pow_pos, pow_mono}
+use Rattle.std.proofs.Common.{ℕ, suc, ◌+◌, ◌-◌, ◌*◌, ◌/◌, ◌^◌, ◌≤◌, ◌<◌, le_trans, le_of_eq, le_antisymm, arith, ◌≡◌, sym, ap, ◌∙◌, subst, false, ◌⊎◌, ⊎_elim, T, pow_pos, pow_mono}
+use Rattle.std.proofs.Math.Nat.{pow-succ'}
 use lib.Ieee.{Float, Format, prec, emax, low, units, fits}
 use lib.Ieee.Nearest.{closest}
 use lib.Ieee.Exact.{HasValue, units_val}

@@ -1,23 +1,7 @@
 -- How large w is, the whole part of a root √(n * 2 ^ l): it has more digits than the format keeps, and is far from overflow. And that a root is never half way
 -- between two values. Assumes nothing.
-use Prim.Native.Nat.{ℕ, suc, ◌+◌, ◌-◌, ◌*◌, ◌^◌, ◌≤◌, ◌<◌}
-use native.Mathlib.Nat.{
-  le_trans,
-  le_of_eq,
-  lt_of_lt_of_le,
-  lt_of_le_of_lt,
-  lt_irrefl,
-  one-mul,
-  mul_assoc,
-  mul-le-mul_right,
-  mul-lt-mul_of_pos_right,
-  lt_of_mul-lt-mul_right,
-  pow-succ',
-}
-use native.Mathlib.Omega.{arith}
-use mathlib.Core.Path.{◌≡◌, sym, ap, ◌∙◌}
-use mathlib.Core.Logic.{⊎_elim}
-use lib.Pow.{pow_pos, pow-add, pow_mono}
+use Rattle.std.proofs.Common.{ℕ, suc, ◌+◌, ◌-◌, ◌*◌, ◌^◌, ◌≤◌, ◌<◌, le_trans, le_of_eq, lt_of_lt_of_le, lt_of_le_of_lt, lt_irrefl, one-mul, mul_assoc, mul-le-mul_right, mul-lt-mul_of_pos_right, lt_of_mul-lt-mul_right, arith, ◌≡◌, sym, ap, ◌∙◌, ⊎_elim, pow_pos, pow-add, pow_mono}
+use Rattle.std.proofs.Math.Nat.{pow-succ'}
 use lib.Ieee.{Format, binary32, binary64, prec, emax, low, size}
 use lib.Ieee.Digits.{size-lt, size_reaches}
 use lib.Ieee.Fits.{two}

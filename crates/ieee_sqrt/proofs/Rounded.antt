@@ -1,21 +1,13 @@
 -- The square root rounded to a format f, from g, its leading digits, of which there is one more than f keeps. The digit past those that f keeps decides:
 -- what comes after it cannot be all zeros when it is 1, since then g would be odd and the root exact. Assumes nothing.
-use Prim.Native.Nat.{ℕ, ◌+◌, ◌-◌, ◌*◌, ◌/◌, ◌%◌, ◌^◌, ◌≤◌, ◌<◌}
-use native.Mathlib.Nat.{eq-or-lt_of_le, le_trans, le_of_eq, le_antisymm, lt_of_lt_of_le, lt_irrefl, mul-pos, mul-le-mul_right, mul-div-mul_right}
-use native.Mathlib.Omega.{arith}
-use mathlib.Core.Path.{◌≡◌, sym, ap, ◌∙◌}
-use mathlib.Core.Bool.{Bool, true, false, cond}
-use mathlib.Core.Logic.{⊎_elim}
-use lib.Dec.{T, eqb, eqb→eq}
-use lib.Pow.{pow_pos, pow-add, pow_mono}
-use lib.Ieee.{Format, prec, low, size, units, fits}
+use Rattle.std.proofs.Common.{ℕ, ◌+◌, ◌-◌, ◌*◌, ◌/◌, ◌%◌, ◌^◌, ◌≤◌, ◌<◌, eq-or-lt_of_le, le_trans, le_of_eq, le_antisymm, lt_of_lt_of_le, lt_irrefl, mul-pos, mul-le-mul_right, div-lt_iff_lt-mul, le-div_iff_mul-le, arith, ◌≡◌, sym, ap, ◌∙◌, Bool, true, false, cond, ⊎_elim, T, eqb, eqb→eq, pow_pos, pow-add, pow_mono}
+use Rattle.std.proofs.Math.Nat.{mul-div-mul_right}
+use lib.Ieee.{Format, prec, low, size, units, round, fits}
 use lib.Ieee.Digits.{size-lt, size-le}
 use lib.Ieee.Nearest.{closest, closest_same}
 use lib.Ieee.Fits.{core, round_is, round-fits}
 use Rattle.ieee_sqrt.specs.Sqrt.{round_root, isqrt}
 use Rattle.ieee.proofs.Numbers.{le_or_lt}
-use Rattle.ieee_sqrt.specs.IsqrtLaws.{IsRoot, isqrt_is}
-use Rattle.ieee_sqrt.proofs.Isqrt.{scaled_below, scaled_above, scaled_exact}
 use Rattle.ieee_sqrt.proofs.Closest.{half_digit}
 
 -- ---- how many digits a number has
@@ -58,25 +50,51 @@ round_doubled f n =
     half : (w t : ℕ) → t ≤ 1 → (2 * w + t) / 2 ≡ w
     half w t h = omega arith
 
-module _ (f : Format) (m g i : ℕ) (root : IsRoot m g) (low_g : 2 ^ prec f ≤ g) (high_g : g < 2 ^ (prec f + 1)) (never_half : g % 2 ≡ 1 → g * g ≡ m → ⊥) where
-  n : ℕ
-  n = m * (2 ^ i * 2 ^ i)
+across : (a l c k : ℕ) → a * l * (c * k) ≡ a * (c * l * k)
+across a l c k = omega arith
 
-  w : ℕ
-  w = isqrt (m * (2 ^ i * 2 ^ i))
+-- w has the leading digits g, one more than the format keeps, and i + j digits after them, of which j are finer than a unit
+module _ (f : Format) (n w g i j : ℕ) (low_g : 2 ^ prec f ≤ g) (high_g : g < 2 ^ (prec f + 1)) (from : g * (2 ^ i * 2 ^ j) ≤ w)
+    (to : w < (g + 1) * (2 ^ i * 2 ^ j)) (never_half : g % 2 ≡ 1 → g * (2 ^ i * 2 ^ j) * (g * (2 ^ i * 2 ^ j)) ≡ n → ⊥) where
+  l : ℕ
+  l = 2 ^ low f
 
-  w_low : g * 2 ^ i ≤ w
-  unfolding w
-  w_low = scaled_below m (2 ^ i) g (isqrt (m * (2 ^ i * 2 ^ i))) root (isqrt_is (m * (2 ^ i * 2 ^ i)))
+  a : ℕ
+  a = doubled w n
 
-  w_high : w < (g + 1) * 2 ^ i
-  unfolding w
-  w_high = scaled_above m (2 ^ i) g (isqrt (m * (2 ^ i * 2 ^ i))) (pow_pos i) root (isqrt_is (m * (2 ^ i * 2 ^ i)))
+  a_high : a < 2 * ((g + 1) * (2 ^ i * 2 ^ j))
+  unfolding a
+  a_high = omega (arith, at_most_one (eqb (w * w) n))
 
-  w_size : size w ≡ prec f + i + 1
-  w_size =
-      size_is w (prec f + i) (le_trans (le_of_eq (pow-add 2 (prec f) i)) (le_trans (mul-le-mul_right (2 ^ i) low_g) w_low))
-      (lt_of_lt_of_le w_high
+  a_low : 2 * (g * (2 ^ i * 2 ^ j)) ≤ a
+  unfolding a
+  a_low = omega arith
+
+  a_odd : g % 2 ≡ 1 → 2 * (g * (2 ^ i * 2 ^ j)) < a
+  unfolding a
+  a_odd h = ⊎_elim (λ e. omega (arith, at (sym e))) (λ l. omega arith) (eq-or-lt_of_le from)
+    where
+      at : w ≡ g * (2 ^ i * 2 ^ j) → 1 ≤ cond (eqb (w * w) n) 0 1
+      at e = inexact (eqb (w * w) n) (λ t. never_half h (ap (λ (x : ℕ). x * x) (sym e) ∙ eqb→eq (w * w) n t))
+
+  whole : ℕ
+  whole = a / (2 * 2 ^ j)
+
+  fine : 0 < 2 * 2 ^ j
+  fine = omega (arith, pow_pos j)
+
+  whole_low : g * 2 ^ i ≤ whole
+  unfolding whole
+  whole_low = (le-div_iff_mul-le fine).1 (omega (arith, a_low))
+
+  whole_high : whole < (g + 1) * 2 ^ i
+  unfolding whole
+  whole_high = (div-lt_iff_lt-mul fine).1 (omega (arith, a_high))
+
+  whole_size : size whole ≡ prec f + i + 1
+  whole_size =
+      size_is whole (prec f + i) (le_trans (le_of_eq (pow-add 2 (prec f) i)) (le_trans (mul-le-mul_right (2 ^ i) low_g) whole_low))
+      (lt_of_lt_of_le whole_high
       (le_trans (mul-le-mul_right (2 ^ i) (g_room high_g)) (le_trans (le_of_eq (sym (pow-add 2 (prec f + 1) i))) (le_of_eq (ap (λ (x : ℕ). 2 ^ x) order)))))
     where
       g_room : g < 2 ^ (prec f + 1) → g + 1 ≤ 2 ^ (prec f + 1)
@@ -85,37 +103,24 @@ module _ (f : Format) (m g i : ℕ) (root : IsRoot m g) (low_g : 2 ^ prec f ≤ 
       order : prec f + 1 + i ≡ prec f + i + 1
       order = omega arith
 
-  a : ℕ
-  a = doubled w n
-
-  a_high : a < 2 * ((g + 1) * 2 ^ i)
-  unfolding a
-  a_high = omega (arith, w_high, at_most_one (eqb (w * w) n))
-
-  a_low : 2 * (g * 2 ^ i) ≤ a
-  unfolding a
-  a_low = omega (arith, w_low)
-
-  a_odd : g % 2 ≡ 1 → 2 * (g * 2 ^ i) < a
-  unfolding a n
-  a_odd h = ⊎_elim (λ e. omega (arith, at (sym e))) (λ l. omega arith) (eq-or-lt_of_le w_low)
-    where
-      at : w ≡ g * 2 ^ i → 1 ≤ cond (eqb (w * w) n) 0 1
-      at e = inexact (eqb (w * w) n) (λ t. never_half h (scaled_exact m (2 ^ i) g (pow_pos i) (ap (λ (x : ℕ). x * x) (sym e) ∙ eqb→eq (w * w) n t)))
-
-  pub root_units : round_root f (m * (2 ^ i * 2 ^ i)) ≡ units f false ((g + 1) / 2) (i + 1)
-  unfolding n w a
-  root_units =
-      let k : size w - prec f ≡ i + 1 = ap (λ (x : ℕ). x - prec f) w_size ∙ less (prec f) in
-      round_doubled f n
-      ∙ ap (λ (x : ℕ). units f false (closest a (2 * 2 ^ x)) x) k
-      ∙ ap (λ (x : ℕ). units f false x (i + 1)) (half_digit a (2 * 2 ^ (i + 1)) (2 ^ i) g four a_low a_high a_odd)
+  pub leading : round f false (doubled w n) (2 * 2 ^ j * 2 ^ low f) ≡ units f false ((g + 1) / 2) (i + 1)
+  unfolding a l whole
+  leading =
+      let b = 2 * 2 ^ j * l in
+      let halved : a * l / b ≡ whole = mul-div-mul_right a (2 * 2 ^ j) (pow_pos (low f)) in
+      let k : size (a * l / b) - prec f ≡ i + 1 = ap (λ (x : ℕ). size x - prec f) halved ∙ ap (λ (x : ℕ). x - prec f) whole_size ∙ less (prec f) in
+      round_is f false a b
+      ∙ ap (λ (x : ℕ). core f false (a * l) b x) k
+      ∙ ap (λ (x : ℕ). units f false x (i + 1))
+      (closest_same (a * l) (b * 2 ^ (i + 1)) a (2 * 2 ^ j * 2 ^ (i + 1)) (mul-pos (mul-pos fine (pow_pos (low f))) (pow_pos (i + 1)))
+      (mul-pos fine (pow_pos (i + 1))) (across a l (2 * 2 ^ j) (2 ^ (i + 1)))
+      ∙ half_digit a (2 * 2 ^ j * 2 ^ (i + 1)) (2 ^ i * 2 ^ j) g four a_low a_high a_odd)
     where
       less : (p : ℕ) → p + i + 1 - p ≡ i + 1
       less p = omega arith
 
-      four : 2 * 2 ^ (i + 1) ≡ 4 * 2 ^ i
-      four = omega (arith, pow-add 2 i 1)
+      four : 2 * 2 ^ j * 2 ^ (i + 1) ≡ 4 * (2 ^ i * 2 ^ j)
+      four = rw (pow-add 2 i 1) (omega arith)
 
 pub root_fits : (f : Format) (n : ℕ) → T (fits f (round_root f n))
 unfolding round_root

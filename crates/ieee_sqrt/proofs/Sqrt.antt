@@ -1,49 +1,23 @@
--- `sqrt` by what the tests of a program say of x, and for a positive x by the numbers that the program has. Assumes nothing.
-use Prim.Native.Nat.{ℕ, zero, suc, ◌+◌, ◌-◌, ◌*◌, ◌/◌, ◌%◌, ◌^◌, ◌≤◌, ◌<◌}
-use native.Mathlib.Nat.{mul_assoc, mul_right_comm}
-use native.Mathlib.Omega.{arith}
-use mathlib.Core.Path.{◌≡◌, refl, sym, ap, ◌∙◌, subst}
-use mathlib.Core.Bool.{true, false, true≢false}
-use lib.Dec.{T}
-use lib.IntN.{pos}
-use lib.Pow.{pow-add}
-use lib.Ieee.{Float, nan, inf, fin, Format, binary64, low, up, down, lt, eq}
-use lib.Ieee.Fits.{up_pos}
-use lib.Ieee.Positive.{positive}
-use borrow.Author.Tests.{ltb-false}
-use Rattle.ieee_sqrt.specs.Sqrt.{sqrt, round_root}
+-- `sqrt` is the kit's, which is rounded from 2271 binary places: both have the same leading digits, and one more than the format keeps decides.
+-- Assumes nothing.
+use Rattle.std.proofs.Common.{◌≡◌, ℕ, zero, suc, ◌+◌, ◌-◌, ◌*◌, ◌/◌, ◌%◌, ◌^◌, ◌≤◌, ◌<◌, true, false, T, refl, sym, ap, ◌∙◌, subst, mul-le-mul_right, mul-div_cancel, div-lt_iff_lt-mul, le-div_iff_mul-le, arith, eqb→eq, lt→ltb, pow_pos, pow-add}
+use Rattle.std.proofs.Math.Nat.{pow-succ'}
+use lib.Ieee as Ieee
+use lib.Ieee.{Float, nan, inf, fin, Format, binary32, binary64, prec, low, up, down, size, units, round, root_below, root_twice, fits}
+use lib.Ieee.Digits.{size-lt}
+use lib.Ieee.Fits.{two, down_pos}
+use lib.Ieee.Positive.{positive, value_pos}
+use lib.Ieee.Root.{whole_part}
 use Rattle.ieee.specs.Units.{units_of}
-use Rattle.ieee.proofs.Numbers.{lt_of_square_lt, odd_square, Odd}
-use Rattle.ieee_sqrt.specs.IsqrtLaws.{IsRoot}
-use Rattle.ieee_sqrt.proofs.OddRoot.{IsOddRoot, root_above}
-use Rattle.ieee.proofs.Sign.{not_zero, zero_level}
-use Rattle.ieee_sqrt.proofs.Written.{Written, written}
+use Rattle.ieee.proofs.Bounds.{one_unit}
+use Rattle.ieee.proofs.Numbers.{Odd}
+use Rattle.ieee.proofs.Units.{positive_value, units_form}
+use Rattle.ieee_sqrt.specs.Sqrt.{sqrt, isqrt, round_root}
+use Rattle.ieee_sqrt.specs.IsqrtLaws.{IsRoot, isqrt_is}
+use Rattle.ieee_sqrt.proofs.Isqrt.{scaled_below, scaled_above, scaled_exact}
+use Rattle.ieee_sqrt.proofs.Rounded.{doubled, leading}
+use Rattle.ieee_sqrt.proofs.Range.{root_large, wide, places, all_digits, never_half_way}
 
--- ---- not both positive and finite
-pub sqrt_infinite : (f : Format) (x : Float) → lt (fin false 0 (pos 0)) x ≡ true → lt x (inf false) ≡ false → x ≡ sqrt f x
-unfolding lt sqrt
-sqrt_infinite f nan p q = refl
-sqrt_infinite f (inf true) p q = absurd (true≢false (sym p))
-sqrt_infinite f (inf false) p q = refl
-sqrt_infinite f (fin s m e) p q = absurd (true≢false q)
-
-pub sqrt_zero : (f : Format) (x : Float) → eq x (fin false 0 (pos 0)) ≡ true → x ≡ sqrt f x
-unfolding eq sqrt
-sqrt_zero f nan p = refl
-sqrt_zero f (inf s) p = absurd (true≢false (sym p))
-sqrt_zero f (fin s zero e) p = refl
-sqrt_zero f (fin s (suc m) e) p = absurd (not_zero s m e p)
-
-pub sqrt_none : (f : Format) (x : Float) → lt (fin false 0 (pos 0)) x ≡ false → eq x (fin false 0 (pos 0)) ≡ false → nan ≡ sqrt f x
-unfolding lt eq sqrt
-sqrt_none f nan p q = refl
-sqrt_none f (inf true) p q = refl
-sqrt_none f (inf false) p q = absurd (true≢false p)
-sqrt_none f (fin s zero e) p q = absurd (true≢false (sym (zero_level s (0 * up e * 1) (0 * 1 * down e) (omega arith) (omega arith)) ∙ q))
-sqrt_none f (fin true (suc m) e) p q = refl
-sqrt_none f (fin false (suc m) e) p q = absurd (omega (arith, ltb-false, up_pos e))
-
--- ---- positive and finite
 pub sqrt_positive : (f : Format) (x : Float) → T (positive x) → sqrt f x ≡ round_root f (units_of f x * 2 ^ low f)
 unfolding sqrt
 sqrt_positive f nan p = absurd p
@@ -52,49 +26,103 @@ sqrt_positive f (fin true m e) p = absurd p
 sqrt_positive f (fin false zero e) p = absurd p
 sqrt_positive f (fin false (suc m) e) p = refl
 
--- n is d₀ * 2 ^ e₀, which is d * 4 ^ i with the exponent raised by 1020
-radicand : (n d₀ e₀ d c : ℕ) → d₀ * 2 ^ e₀ ≡ n → d * (c * c) ≡ d₀ * 2 ^ (e₀ + 1020) → n * 2 ^ 1074 ≡ d * 2 ^ 54 * (c * c)
-radicand n d₀ e₀ d c parts fours =
-    ap (λ (x : ℕ). x * 2 ^ 1074) (sym parts)
-    ∙ sym
-    (mul_right_comm d (2 ^ 54) (c * c)
-    ∙ ap (λ (x : ℕ). x * 2 ^ 54) (fours ∙ ap (λ (x : ℕ). d₀ * x) (pow-add 2 e₀ 1020) ∙ sym (mul_assoc d₀ (2 ^ e₀) (2 ^ 1020)))
-    ∙ mul_assoc (d₀ * 2 ^ e₀) (2 ^ 1020) (2 ^ 54))
+-- ---- n has the root w, and n * 4 ^ j the root v
+record Leading (p w : ℕ) : Type 0 where
+  g : ℕ
+  i : ℕ
+  low_g : 2 ^ p ≤ g
+  high_g : g < 2 ^ (p + 1)
+  from : g * 2 ^ i ≤ w
+  to : w < (g + 1) * 2 ^ i
 
--- the numbers that the program has: the digits and the exponent by fours
-pub record FoundRoot (x : Float) (d₀ e₀ d i : ℕ) : Type 0 where
-  pub parts : d₀ * 2 ^ e₀ ≡ units_of binary64 x
-  pub few : e₀ < 2046
-  pub fours : d * (2 ^ i * 2 ^ i) ≡ d₀ * 2 ^ (e₀ + 1020)
-  pub low_d : 2 ^ 52 ≤ d
-  pub high_d : d + 1 < 2 ^ 54
-  pub halved : i * 2 ≤ e₀ + 1020
+first_of : (p w : ℕ) → 2 ^ p ≤ w → Leading p w
+first_of p w h =
+    let at = places p w h in
+    let i = at.k in
+    let above : w < 2 ^ (p + 1 + i) = subst (λ (s : ℕ). w < 2 ^ s) (omega (arith, at.is)) (size-lt w) in
+    let room : 2 ^ (p + 1 + i) ≡ 2 ^ (p + 1) * 2 ^ i = pow-add 2 (p + 1) i in
+    record {
+      g = w / 2 ^ i;
+      i = i;
+      low_g = (le-div_iff_mul-le (pow_pos i)).1 (omega (arith, at.low_w, pow-add 2 p i));
+      high_g = (div-lt_iff_lt-mul (pow_pos i)).1 (omega arith);
+      from = (le-div_iff_mul-le (pow_pos i)).0 (omega arith);
+      to = (div-lt_iff_lt-mul (pow_pos i)).0 (omega arith);
+    }
 
-pub root_high : (d g : ℕ) → d + 1 < 2 ^ 54 → g * g ≤ d * 2 ^ 54 → g + 1 < 2 ^ 54
-root_high d g high below =
-    let lt : g < 2 ^ 54 - 1 = lt_of_square_lt g (2 ^ 54 - 1) (omega arith) in
-    omega arith
+same : (f : Format) (n w v j : ℕ) → IsRoot n w → IsRoot (n * (2 ^ j * 2 ^ j)) v → 2 ^ prec f ≤ w
+    → ((g i : ℕ) → 2 ^ prec f ≤ g → g % 2 ≡ 1 → g * 2 ^ i * (g * 2 ^ i) ≡ n → ⊥)
+    → round f false (doubled v (n * (2 ^ j * 2 ^ j))) (2 * 2 ^ j * 2 ^ low f) ≡ round f false (doubled w n) (2 * 2 ^ low f)
+same f n w v j root finer large never =
+    let at = first_of (prec f) w large in
+    let g = at.g in
+    let i = at.i in
+    let d = 2 ^ i in
+    let c = 2 ^ j in
+    let above : w * c ≤ v = scaled_below n c w v root finer in
+    let below : v < (w + 1) * c = scaled_above n c w v (pow_pos j) root finer in
+    let from : g * (d * c) ≤ v = omega (arith, mul-le-mul_right c at.from) in
+    let next : w + 1 ≤ (g + 1) * d = omega (arith, at.to) in
+    let to : v < (g + 1) * (d * c) = omega (arith, mul-le-mul_right c next) in
+    let flat : 2 * 2 ^ 0 * 2 ^ low f ≡ 2 * 2 ^ low f = omega arith in
+    leading f (n * (c * c)) v g i j at.low_g at.high_g from to
+    (λ o e. never g i at.low_g o (scaled_exact n c (g * d) (pow_pos j) (omega arith)))
+    ∙ sym (leading f n w g i 0 at.low_g at.high_g (omega (arith, at.from)) (omega (arith, at.to)) (λ o e. never g i at.low_g o (omega arith)))
+    ∙ ap (round f false (doubled w n)) flat
 
-root_low : (d g : ℕ) → 2 ^ 52 ≤ d → d * 2 ^ 54 < (g + 1) * (g + 1) → 2 ^ 53 ≤ g
-root_low d g low above =
-    let lt : 2 ^ 53 < g + 1 = lt_of_square_lt (2 ^ 53) (g + 1) (omega arith) in
-    omega arith
+-- ---- 2271 places, in each format
+finer : (f : Format) → (j : ℕ) × (low f + j ≡ 2271)
+finer binary32 = (2122, refl)
+finer binary64 = (1197, refl)
 
-sqrt_root : (x : Float) (d₀ e₀ d i g : ℕ) → T (positive x) → FoundRoot x d₀ e₀ d i → IsRoot (d * 2 ^ 54) g
-    → Written (sqrt binary64 x) ((i + 1) * 2 ^ 52 + (g + 1) / 2)
-sqrt_root x d₀ e₀ d i g p h root =
-    subst (λ (r : Float). Written r ((i + 1) * 2 ^ 52 + (g + 1) / 2))
-    (sym (sqrt_positive binary64 x p ∙ ap (round_root binary64) (radicand (units_of binary64 x) d₀ e₀ d (2 ^ i) h.parts h.fours)))
-    (written (d * 2 ^ 54) g i root (root_low d g h.low_d root.above) (root_high d g h.high_d root.below)
-    (λ o e. odd_square (g / 2) d (2 ^ 53) (ap (λ (k : ℕ). k * k) (halves o) ∙ e))
-    (omega (arith, h.few, h.halved)))
-  where
-    halves : g % 2 ≡ 1 → Odd (g / 2) ≡ g
-    halves o = omega arith
+in_places : (a d u l j k : ℕ) → 0 < d → k ≡ l + (l + (j + j)) → a * 2 ^ l ≡ u * d → a * 2 ^ k / d ≡ u * 2 ^ l * (2 ^ j * 2 ^ j)
+in_places a d u l j k p h e =
+    let q = 2 ^ l * (2 ^ j * 2 ^ j) in
+    let apart : 2 ^ k ≡ 2 ^ l * q = ap (λ (i : ℕ). 2 ^ i) h ∙ pow-add 2 l (l + (j + j)) ∙ ap (λ (i : ℕ). 2 ^ l * i)
+    (pow-add 2 l (j + j) ∙ ap (λ (i : ℕ). 2 ^ l * i) (pow-add 2 j j)) in
+    let all : a * 2 ^ k ≡ u * 2 ^ l * (2 ^ j * 2 ^ j) * d = ap (λ (i : ℕ). a * i) apart ∙ omega (arith, ap (λ (i : ℕ). i * q) e) in
+    ap (λ (i : ℕ). i / d) all ∙ mul-div_cancel (u * 2 ^ l * (2 ^ j * 2 ^ j)) p
 
--- the root, or the odd number just below it: half of either, rounded up, is the same
-pub sqrt_found : (x : Float) (d₀ e₀ d i r : ℕ) → T (positive x) → FoundRoot x d₀ e₀ d i → IsOddRoot (d * 2 ^ 54) r
-    → Written (sqrt binary64 x) ((i + 1) * 2 ^ 52 + (r + 1) / 2)
-sqrt_found x d₀ e₀ d i r p h odd =
-    let root = root_above (d * 2 ^ 54) r odd in
-    subst (λ (k : ℕ). Written (sqrt binary64 x) ((i + 1) * 2 ^ 52 + k)) root.1.1 (sqrt_root x d₀ e₀ d i root.0 p h root.1.0)
+place : (l j k : ℕ) → k ≡ suc j + l → 2 ^ k ≡ 2 * 2 ^ j * 2 ^ l
+place l j k h = ap (λ (i : ℕ). 2 ^ i) h ∙ pow-add 2 (suc j) l ∙ ap (λ (i : ℕ). i * 2 ^ l) (pow-succ' 2 j)
+
+module _ (f : Format) (x : Float) (fit : T (fits f x)) (plus : T (positive x)) where
+  n : ℕ
+  n = units_of f x * 2 ^ low f
+
+  never : (g i : ℕ) → 2 ^ prec f ≤ g → g % 2 ≡ 1 → g * 2 ^ i * (g * 2 ^ i) ≡ units_of f x * 2 ^ low f → ⊥
+  never g i low_g o e =
+      let mine = units_form f x fit in
+      let some : 1 ≤ prec f = omega (arith, two f) in
+      let half : 2 ^ prec f ≡ 2 * 2 ^ (prec f - 1) = all_digits (prec f) some in
+      let odd : Odd (g / 2) ≡ g = omega arith in
+      never_half_way (2 ^ (prec f - 1)) (low f) i (g / 2) mine.digits mine.places (units_of f x) mine.is (omega (arith, mine.few)) (omega arith)
+      (ap (λ (h : ℕ). h * 2 ^ i * (h * 2 ^ i)) odd ∙ e)
+
+  large : 2 ^ prec f ≤ isqrt (units_of f x * 2 ^ low f)
+  large = root_large (prec f) (low f) (units_of f x) (isqrt (units_of f x * 2 ^ low f)) (wide f)
+      (value_pos x (units_of f x) (2 ^ low f) plus (pow_pos (low f)) (positive_value f x fit plus)) (isqrt_is (units_of f x * 2 ^ low f))
+
+  pub finer_root : (a : ℕ) (j : ℕ) → low f + j ≡ 2271 → a ≡ units_of f x * 2 ^ low f * (2 ^ j * 2 ^ j)
+      → round f false (root_twice a) (2 ^ 2272) ≡ round_root f (units_of f x * 2 ^ low f)
+  unfolding root_twice round_root
+  finer_root a j h e =
+      let n = units_of f x * 2 ^ low f in
+      let root = whole_part (n * (2 ^ j * 2 ^ j)) in
+      ap (λ (b : ℕ). round f false (root_twice b) (2 ^ 2272)) e
+      ∙ ap (round f false (root_twice (n * (2 ^ j * 2 ^ j)))) (place (low f) j 2272 (omega arith))
+      ∙ same f n (isqrt n) (root_below (size (n * (2 ^ j * 2 ^ j))) (n * (2 ^ j * 2 ^ j))) j (isqrt_is n) (record { below = root.0; above = root.1 }) large never
+
+pub std_sqrt : (f : Format) (x : Float) → T (fits f x) → Ieee.sqrt f x ≡ sqrt f x
+unfolding Ieee.sqrt sqrt fits
+std_sqrt f nan t = refl
+std_sqrt f (inf true) t = refl
+std_sqrt f (inf false) t = refl
+std_sqrt f (fin s zero e) t = ap (fin s 0) (sym (one_unit e (eqb→eq (up e * down e) 1 t)))
+std_sqrt f (fin true (suc m) e) t = refl
+std_sqrt f (fin false (suc m) e) t =
+    let j = finer f in
+    let plus : T (positive (fin false (suc m) e)) = lt→ltb 0 (suc m) (omega arith) in
+    finer_root f (fin false (suc m) e) t plus (suc m * up e * 2 ^ 4542 / down e) j.0 j.1
+    (in_places (suc m * up e) (down e) (units_of f (fin false (suc m) e)) (low f) j.0 4542 (down_pos e) (omega (arith, j.1))
+    (positive_value f (fin false (suc m) e) t plus).1)

@@ -3,56 +3,41 @@
 // otherwise, and then how many vectors there were and how many of them wrong.
 #![tactic(auto)]
 
-ghost use Rattle.std.specs.Prelude.{◌+◌, ◌≤◌, length};
-
 use std::io;
 
-// The bytes of a line.
+// A line's two patterns of 16 digits, each with the byte after it.
 const WIDTH: usize = 34;
 
-// A hexadecimal digit's number; another byte counts as 0.
+// A hexadecimal digit's number; another byte counts as 0, the capitals too, which `to_digit` would read.
 fn digit(byte: u8) -> u64 {
     match byte {
-        b'0'..=b'9' => (byte - b'0') as u64,
-        b'a'..=b'f' => (byte - b'a') as u64 + 10,
+        b'0'..=b'9' => u64::from(byte - b'0'),
+        b'a'..=b'f' => u64::from(byte - b'a') + 10,
         _ => 0,
     }
 }
 
-// The number of the 16 digits from `at` on.
-fn number(text: &[u8], at: usize) -> u64
-    requires { at + 16 ≤ length text.now }
-{
-    let mut n = 0u64;
-    let mut i = 0usize;
-    while i < 16 {
-        n = n << 4 | digit(text[at + i]);
-        i += 1;
-    }
-    n
+// The number that digits write.
+fn number(digits: &[u8]) -> u64 {
+    digits.iter().fold(0, |n, byte| n << 4 | digit(*byte))
 }
 
-// Whether the root of the line at `at` comes out as the line has it. If not, writes the line's pattern.
-fn is_right(rt: &impl Print, text: &[u8], at: usize) -> io::Result<bool>
-    requires { at + 34 ≤ length text.now }
-{
-    let pattern = number(text, at);
-    let root = ieee_sqrt::sqrt_f64(ieee::f64_of_bits(pattern));
-    if ieee::bits_of_f64(root) == number(text, at + 17) {
+// Whether the root comes out as the line has it. If not, writes the line's pattern.
+fn is_right(rt: &impl Print, line: &[u8; WIDTH]) -> io::Result<bool> {
+    let pattern = number(&line[..16]);
+    let root = ieee_sqrt::sqrt_f64(std::num::f64_from_bits_with_nan(pattern));
+    if std::num::f64_to_bits_with_nan(root) == number(&line[17..33]) {
         return Ok(true);
     }
     println!(rt; "wrong: {pattern:016x}")?;
     Ok(false)
 }
 
-// How many of a text's whole lines came out wrong.
-fn count_wrong(rt: &impl Print, text: &[u8]) -> io::Result<u64> {
-    let mut wrong = 0u64;
-    let mut at = 0usize;
-    while WIDTH <= text.len() - at {
-        let right = is_right(rt, text, at)?;
-        at += WIDTH;
-        if !right {
+// How many lines came out wrong.
+fn count_wrong(rt: &impl Print, lines: &[[u8; WIDTH]]) -> io::Result<usize> {
+    let mut wrong = 0;
+    for line in lines {
+        if !is_right(rt, line)? {
             wrong += 1;
         }
     }
@@ -62,7 +47,8 @@ fn count_wrong(rt: &impl Print, text: &[u8]) -> io::Result<u64> {
 fn main(rt: HostRuntime) -> io::Result<()> {
     let mut space = [0u8; 65536];
     let n = input::read_full(&mut rt.stdin(), &mut space)?;
-    let wrong = count_wrong(&rt, &space[..n])?;
-    let vectors = n / WIDTH;
+    let (lines, _) = space[..n].as_chunks();
+    let wrong = count_wrong(&rt, lines)?;
+    let vectors = lines.len();
     println!(rt; "{vectors} vectors, {wrong} wrong")
 }

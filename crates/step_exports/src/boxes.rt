@@ -69,10 +69,10 @@ pub extern "C" fn step_find_width_at_degree(
     let right = width.right;
     *out = [
         width.length,
-        ieee::bits_of_f32(left.x),
-        ieee::bits_of_f32(left.y),
-        ieee::bits_of_f32(right.x),
-        ieee::bits_of_f32(right.y),
+        std::num::f32_to_bits_with_nan(left.x),
+        std::num::f32_to_bits_with_nan(left.y),
+        std::num::f32_to_bits_with_nan(right.x),
+        std::num::f32_to_bits_with_nan(right.y),
     ];
     0
 }

@@ -46,9 +46,9 @@ pub extern "C" fn step_guess_barcode_size_general(
     if radius >= 65536 {
         return REFUSED;
     }
-    let adjust = ieee::f64_of_bits(height_adjust);
-    let area = ieee::f64_of_bits(circle_area);
-    let last = ieee::f64_of_bits(height_final_adjust);
+    let adjust = std::num::f64_from_bits_with_nan(height_adjust);
+    let area = std::num::f64_from_bits_with_nan(circle_area);
+    let last = std::num::f64_from_bits_with_nan(height_final_adjust);
     let size = detector_size::guess_barcode_size_general(radius, adjust, area, last);
     *out = [size.width, size.height];
     0
@@ -75,7 +75,7 @@ pub extern "C" fn step_scaled_boundary(numbers: &[u32; 5], scale: u64, out: &mut
     if radius >= 2048 {
         return REFUSED;
     }
-    let percent = ieee::f64_of_bits(scale);
+    let percent = std::num::f64_from_bits_with_nan(scale);
     if !is_scale(percent) {
         return REFUSED;
     }
@@ -114,7 +114,7 @@ pub extern "C" fn step_adjust_point_alternate(
         x: numbers[5],
         y: numbers[6],
     };
-    let percent = ieee::f64_of_bits(scale);
+    let percent = std::num::f64_from_bits_with_nan(scale);
     if !is_centered(shape, center) {
         return REFUSED;
     }
@@ -149,7 +149,7 @@ pub extern "C" fn step_get_point(numbers: &[u32; 5], out: &mut [u32; 2])
     };
     let table = sines::table();
     let point = rxing_result_point::get_point(center, original, &table, numbers[4]);
-    *out = [ieee::bits_of_f32(point.x), ieee::bits_of_f32(point.y)];
+    *out = [std::num::f32_to_bits_with_nan(point.x), std::num::f32_to_bits_with_nan(point.y)];
 }
 
 // A point by the bits of its coordinates.
@@ -157,8 +157,8 @@ fn point_of(x: u32, y: u32) -> Point
     ensures { result ≡ point_by_bits x y }
 {
     Point {
-        x: ieee::f32_of_bits(x),
-        y: ieee::f32_of_bits(y),
+        x: std::num::f32_from_bits_with_nan(x),
+        y: std::num::f32_from_bits_with_nan(y),
     }
 }
 
@@ -172,5 +172,5 @@ pub extern "C" fn step_find_center(numbers: &[u32; 6], out: &mut [u32; 2])
     let second = point_of(numbers[2], numbers[3]);
     let third = point_of(numbers[4], numbers[5]);
     let point = detector_center::find_center(first, second, third);
-    *out = [ieee::bits_of_f32(point.x), ieee::bits_of_f32(point.y)];
+    *out = [std::num::f32_to_bits_with_nan(point.x), std::num::f32_to_bits_with_nan(point.y)];
 }

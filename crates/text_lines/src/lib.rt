@@ -40,7 +40,7 @@ fn put_turn(buf: &mut [u8], at: usize, outcome: u32, scale: u32, rotation: u32, 
     ensures { Puts (following (map decimal_of (outcome ∷ scale ∷ degrees_of rotation ∷ class ∷ []))) at buf.old result buf.new
         × (result ≤ at + 72) }
 {
-    let degrees = ieee::saturating_f32_to_u32(ieee::f32_of_bits(rotation));
+    let degrees = std::num::saturating_f32_to_u32(std::num::f32_from_bits_with_nan(rotation));
     let after_outcome = text::put_named(buf, at, b" ", outcome);
     let after_scale = text::put_named(buf, after_outcome, b" ", scale);
     let after_rotation = text::put_named(buf, after_scale, b" ", degrees);

@@ -1,6 +1,5 @@
 -- `input::read_full` has consumed what stands at the buffer's start. The measure is the room that is left.
-use Prim.Native.Nat.{◌-◌, ◌≤◌}
-use lib.ListN.{length, take}
+use Rattle.std.proofs.Common.{◌-◌, ◌≤◌, length, take}
 use Rattle.std.specs.Io.KnownBytes.{Consumes}
 use Rattle.input.proofs.read_full.Given as goal
 
