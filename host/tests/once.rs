@@ -188,10 +188,11 @@ fn compiled() -> Vec<Call> {
     found
 }
 
-/// What a function calls, in the order of its text.
+/// What a function calls, in the order of its text, but for what a `?` calls.
 fn called<'a>(calls: &'a [Call], from: &str) -> Vec<&'a str> {
     let from = calls.iter().filter(|call| call.from == from);
-    from.map(|call| call.to.as_str()).collect()
+    let to = from.map(|call| call.to.as_str());
+    to.filter(|to| !to.starts_with("core::option::")).collect()
 }
 
 /// Callers of a function, each with its loops.

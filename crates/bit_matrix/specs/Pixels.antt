@@ -27,8 +27,3 @@ try_get shape x y =
       done (Some black))
     (done None))
     (done None)
-
--- by cases on a sample: none outside, or the pixel's colour
-abbrev pub if_sample : {B : Type 0} → B → (Bool → B) → Option Bool → B
-if_sample none some None = none
-if_sample none some (Some black) = some black

@@ -1,5 +1,6 @@
 -- What holds of counts: over two lists in a row, at most the pixels counted, and none at the first pixel outside. Assumes nothing.
 use Rattle.std.proofs.Common.{Bool, Option, None, Some, ℕ, zero, suc, ◌+◌, ◌-◌, ◌*◌, ◌≤◌, ◌<◌, List, [], ◌∷◌, ◌++◌, ◌⊎◌, inl, inr, ◌≡◌, refl, sym, ap, ◌∙◌, arith, length, length-append}
+use Rattle.std.specs.Option.{option_map_or, unwrap_or}
 use mathlib.Core.List.{flat_map}
 use Rattle.std.proofs.lemmas.List.{length-map}
 use Rattle.std.proofs.Math.Path.{fun_ext}
@@ -11,9 +12,9 @@ use Rattle.reads.proofs.BitsLaws.{digit_low, length_range}
 use Rattle.reads.specs.RunsClauses.{Ran}
 use Rattle.reads.proofs.RunsLaws.{ran_done, ran_bind, always_ran}
 use Rattle.bit_matrix.specs.declared.Shape.{Shape}
-use Rattle.bit_matrix.specs.Pixels.{try_get, if_sample}
+use Rattle.bit_matrix.specs.Pixels.{try_get}
 use Rattle.bit_matrix.specs.PixelsLaws.{ran_outside}
-use Rattle.bit_matrix_area.specs.Area.{Cell, column, box, if_count, count_black, try_get_area}
+use Rattle.bit_matrix_area.specs.Area.{Cell, column, box, count_black, try_get_area}
 
 -- ---- how many pixels
 
@@ -31,14 +32,14 @@ length_box left right from to = length_columns from to (right - left) left
 
 -- a count is at most `most`
 pub record Few (most : ℕ) (counted : Option ℕ) : Type 0 where
-  pub few : if_count 0 (λ n. n) counted ≤ most
+  pub few : unwrap_or counted 0 ≤ most
 
 module _ (shape : Shape) where
   -- ---- two lists in a row
 
   pub count_append : (cells more : List Cell) (n : ℕ)
       → count_black shape (cells ++ more) n
-      ≡ count_black shape cells n >>= if_count (done None) (count_black shape more)
+      ≡ count_black shape cells n >>= λ counted. option_map_or (count_black shape more) counted (done None)
   unfolding count_black ◌>>=◌
   count_append [] more n = refl
   count_append (cell ∷ cells) more n =
@@ -46,11 +47,11 @@ module _ (shape : Shape) where
       ∙ sym (bind_assoc (try_get shape cell.0 cell.1) _ _)
     where
       next : ((m : ℕ) → count_black shape (cells ++ more) m
-          ≡ count_black shape cells m >>= if_count (done None) (count_black shape more))
+          ≡ count_black shape cells m >>= λ counted. option_map_or (count_black shape more) counted (done None))
           → (sample : Option Bool)
-          → if_sample (done None) (λ black. count_black shape (cells ++ more) (n + digit black)) sample
-          ≡ if_sample (done None) (λ black. count_black shape cells (n + digit black)) sample
-          >>= if_count (done None) (count_black shape more)
+          → option_map_or (λ black. count_black shape (cells ++ more) (n + digit black)) sample (done None)
+          ≡ option_map_or (λ black. count_black shape cells (n + digit black)) sample (done None)
+          >>= λ counted. option_map_or (count_black shape more) counted (done None)
       next rest None = refl
       next rest (Some black) = rest (n + digit black)
 
@@ -62,7 +63,7 @@ module _ (shape : Shape) where
   count_few (cell ∷ cells) n most h = always_after _ _ (next λ k room. count_few cells k most room)
     where
       next : ((k : ℕ) → k + length cells ≤ most → Always (Few most) (count_black shape cells k)) → (sample : Option Bool)
-          → Always (Few most) (if_sample (done None) (λ black. count_black shape cells (n + digit black)) sample)
+          → Always (Few most) (option_map_or (λ black. count_black shape cells (n + digit black)) sample (done None))
       next rest None = always_done (record { few = omega arith })
       next rest (Some black) = rest (n + digit black) (omega (arith, digit_low black))
 

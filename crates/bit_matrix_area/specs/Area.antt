@@ -1,10 +1,11 @@
 -- `try_get_area` of bit_matrix.rs with size 3: the pixels about a pixel, in order, and whether at least half of them are black. Assumes nothing.
 use Rattle.std.specs.Prelude.{ℕ, ◌+◌, ◌-◌, ◌*◌, leb, length, Bool, Option, None, Some, List, [], ◌∷◌, map}
+use Rattle.std.specs.Option.{option_map_or}
 use mathlib.Core.List.{flat_map}
 use Rattle.reads.specs.Reads.{Reads, done, ◌>>=◌}
 use Rattle.reads.specs.Bits.{digit, range}
 use Rattle.bit_matrix.specs.declared.Shape.{Shape}
-use Rattle.bit_matrix.specs.Pixels.{try_get, if_sample}
+use Rattle.bit_matrix.specs.Pixels.{try_get}
 
 -- a pixel's column and row
 abbrev pub Cell : Type 0
@@ -22,21 +23,16 @@ box left right from to = flat_map (λ (x : ℕ). column x from to) (range left (
 abbrev pub about : ℕ → ℕ → List Cell
 about x y = box (x - 1) (x + 2) (y - 1) (y + 2)
 
--- by cases on a count: none where a pixel is outside
-abbrev pub if_count : {B : Type 0} → B → (ℕ → B) → Option ℕ → B
-if_count none some None = none
-if_count none some (Some n) = some n
-
 module _ (shape : Shape) where
   -- how many pixels of a list are black, beside those counted before, unless one is outside: no later one is looked at then
   unfoldable pub count_black : List Cell → ℕ → Reads (Option ℕ)
   count_black [] n = done (Some n)
   count_black (cell ∷ cells) n = do
     sample ← try_get shape cell.0 cell.1
-    if_sample (done None) (λ black. count_black cells (n + digit black)) sample
+    option_map_or (λ black. count_black cells (n + digit black)) sample (done None)
 
   -- at least half of them black
   unfoldable pub try_get_area : ℕ → ℕ → Reads (Option Bool)
   try_get_area x y = do
     counted ← count_black (about x y) 0
-    if_count (done None) (λ n. done (Some (leb (length (about x y)) (2 * n)))) counted
+    option_map_or (λ n. done (Some (leb (length (about x y)) (2 * n)))) counted (done None)

@@ -1,8 +1,8 @@
 -- The test of a degree in `attempt_rotation_box` of detector.rs. The eighteen points are looked at one after another; one of the other colour ends the degree,
 -- and one whose area passes the last column or row ends all degrees. Definitions only. Assumes nothing.
 use Rattle.std.specs.Prelude.{ℕ, zero, suc, ◌+◌, ◌%◌, Bool, true, false, not, cond, ltb, eqb, Option, None, Some}
+use Rattle.std.specs.Option.{option_map_or}
 use Rattle.reads.specs.Reads.{Reads, done, ◌>>=◌}
-use Rattle.bit_matrix.specs.Pixels.{if_sample}
 
 -- group 0, the top left, is black, group 1, the top right, white, the others black, white, black
 unfoldable pub right_colour : ℕ → Bool → Bool
@@ -19,7 +19,7 @@ unfoldable pub points_from : (ℕ → Reads (Option Bool)) → ℕ → ℕ → R
 points_from look zero k = done (Some true)
 points_from look (suc n) k = do
   sample ← look k
-  if_sample (done None) (λ black. cond (right_colour k black) (points_from look n (k + 1)) (done (Some false))) sample
+  option_map_or (λ black. cond (right_colour k black) (points_from look n (k + 1)) (done (Some false))) sample (done None)
 
 unfoldable pub test_degree : (ℕ → Reads (Option Bool)) → Reads (Option Bool)
 test_degree look = points_from look 18 0

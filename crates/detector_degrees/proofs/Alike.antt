@@ -1,8 +1,8 @@
 -- Programs that look alike at each of the eighteen points give the same degrees, with the same reads; by the points' offsets they do. Assumes nothing.
 use Rattle.std.proofs.Common.{Option, None, Some, Bool, ap, ◌≡◌, ℕ, zero, suc, ◌+◌, ◌*◌, ◌<◌, ◌≤◌, false, cond, List, refl, ap₂, arith}
+use Rattle.std.specs.Option.{option_map_or}
 use Rattle.reads.specs.Reads.{Reads, done, ◌>>=◌}
 use Rattle.bit_matrix.specs.declared.Shape.{Shape}
-use Rattle.bit_matrix.specs.Pixels.{if_sample}
 use Rattle.sines.specs.Sines.{angle_of}
 use Rattle.sines.specs.declared.Angle.{Angle}
 use Rattle.rxing_result_point.specs.declared.Point.{Point}
@@ -18,7 +18,7 @@ unfolding points_from
 points_alike alike zero k h = refl
 points_alike alike (suc n) k h =
     ap₂
-    (λ (look : Reads (Option Bool)) (rest : Reads (Option Bool)). look >>= if_sample (done None) (λ black. cond (right_colour k black) rest (done (Some false))))
+    (λ (look : Reads (Option Bool)) (rest : Reads (Option Bool)). look >>= λ sample. option_map_or (λ black. cond (right_colour k black) rest (done (Some false))) sample (done None))
     (alike k (omega arith))
     (points_alike alike n (k + 1) (omega arith))
 

@@ -1,5 +1,6 @@
 -- Which degrees are found, on every image; and that a degree's test needs of the degree its sine and cosine alone. Assumes nothing.
 use Rattle.std.specs.Prelude.{Option, None, Some, Bool, true, false, ◌≡◌, ℕ, zero, suc, ◌+◌, ◌*◌, ◌%◌, ◌≤◌, List, Float}
+use Rattle.std.specs.Option.{unwrap_or}
 use Rattle.std.proofs.Math.Path.{refl, ap₂}
 use Rattle.std.proofs.Common.{arith}
 use Rattle.reads.specs.Reads.{Reads, done, ◌>>=◌}
@@ -10,13 +11,13 @@ use Rattle.sines.specs.Sines.{sine_of, cosine_of}
 use Rattle.sines.specs.declared.Angle.{Angle}
 use Rattle.rxing_result_point.specs.declared.PointU.{PointU}
 use Rattle.detector_colours.specs.Colours.{if_degree, test_degree}
-use Rattle.detector_degrees.specs.Degrees.{if_rotation, degrees_from, look_at, try_degrees}
+use Rattle.detector_degrees.specs.Degrees.{degrees_from, look_at, try_degrees}
 use Rattle.detector_degrees.specs.SourceDegrees.{look_at_degree, test_at_degree, degrees_at}
 
 -- a found degree is even and at most 348
 pub record Tried (found : Option ℕ) : Type 0 where
-  pub even : if_rotation 0 (λ degree. degree % 2) found ≡ 0
-  pub low : if_rotation 0 (λ degree. degree) found ≤ 348
+  pub even : unwrap_or found 0 % 2 ≡ 0
+  pub low : unwrap_or found 0 ≤ 348
 
 from_tried : (look : Angle → ℕ → Reads (Option Bool)) (n i : ℕ) → i + n ≤ 175 → Always Tried (degrees_from look n i)
 unfolding degrees_from

@@ -1,11 +1,11 @@
 -- The laws of bits and marks: a stored bit is set after marking exactly when it was set before or is one of those marked. Assumes nothing.
 use Rattle.std.specs.Prelude.{ℕ, zero, suc, ◌+◌, ◌/◌, ◌%◌, ◌^◌, ◌-◌, ◌≤◌, ◌<◌, Bool, true, false, not, ◌||◌, ◌⊎◌, ◌↔◌, ◌≢◌, ◌≡◌, refl, length, get_or, set, eqb}
-use Rattle.std.proofs.Common.{pow-suc, suc-add, arith, inl, inr, ⊎_elim, sym, ap, ◌∙◌, length-set, get_or-set_same, get_or-set_other, pow_pos, pow-add}
+use Rattle.std.proofs.Common.{pow-suc, suc-add, arith, inl, inr, ⊎_elim, sym, ap, ◌∙◌, length-set, get_or-set_same, get_or-set_other, pow_pos, pow-add, List, [], ◌∷◌, ◌++◌}
 use Rattle.std.proofs.Math.Nat.{div-eq_of_lt, div_self, mul-mod_left, zero-div}
 use Rattle.std.proofs.Math.Decide.{ℕ_discrete, dec_lt}
 use Rattle.std.proofs.lemmas.Bool.{false≢true}
 use mathlib.Core.List.Memᴰ
-use mathlib.Core.List.{List, [], ◌∷◌, ◌++◌, Memᴰ}
+use mathlib.Core.List.{Memᴰ}
 use Rattle.std.proofs.lemmas.List.{length-replicate}
 use Rattle.std.proofs.Math.ListN.{get_or-eq_default}
 use Rattle.std.proofs.Math.Seq.{set_out}

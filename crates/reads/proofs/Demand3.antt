@@ -1,8 +1,8 @@
 -- Demand 3, for every reading program: a stored bit is marked exactly when it is read, and the bits marked fix the whole run. Assumes nothing.
 use Rattle.std.specs.Prelude.{ℕ, ◌/◌, ◌<◌, true, ◌↔◌, ◌≡◌, length}
 use Rattle.std.proofs.Math.Decide.{dec_lt}
-use Rattle.std.proofs.Common.{arith, sym, ap, ◌∙◌}
-use mathlib.Core.List.{List, Memᴰ}
+use Rattle.std.proofs.Common.{arith, sym, ap, ◌∙◌, List}
+use mathlib.Core.List.{Memᴰ}
 use Rattle.reads.specs.Reads.{Reads, value, trace}
 use Rattle.reads.proofs.ReadsLaws.{same_run}
 use Rattle.reads.specs.Bits.{bit_at, mark_all, zeros}

@@ -1,10 +1,7 @@
 -- The bits of a range within a word are marked by a mask. Assumes nothing.
-use Prim.Native.Nat.{ℕ, zero, suc, ◌+◌, ◌-◌, ◌*◌, ◌^◌, ◌≤◌, ◌<◌}
-use Rattle.std.proofs.Common.{zero-mul, ◌∙◌, pow_pos, get_or-set_same}
-use native.Mathlib.Omega.{arith}
+use Rattle.std.proofs.Common.{zero-mul, ◌∙◌, pow_pos, get_or-set_same, ℕ, zero, suc, ◌+◌, ◌-◌, ◌*◌, ◌^◌, ◌≤◌, ◌<◌, arith, List}
 use Rattle.std.specs.Prelude.{◌≡◌, length, get_or}
 use Rattle.std.proofs.Math.Path.{refl, sym, ap}
-use mathlib.Core.List.{List}
 use Rattle.std.proofs.Math.Arith.{digits_div, digits_mod}
 use Rattle.std.specs.Int.Bits.{bit_or, or_zero_r, or_shifted_r}
 use Rattle.std.proofs.Math.ListN.{set, length-set}

@@ -1,9 +1,9 @@
 -- Marks do not depend on the order in which bits are marked, nor on how often. Assumes nothing.
 use Rattle.std.specs.Prelude.{ℕ, zero, suc, ◌+◌, ◌*◌, ◌/◌, ◌%◌, ◌^◌, ◌≤◌, ◌<◌, max, ◌≢◌, ◌≡◌, length, get_or, set}
 use Rattle.std.proofs.Math.Decide.{ℕ_discrete, dec_lt}
-use Rattle.std.proofs.Common.{arith, ◌∙◌, get_or-set_same, get_or-set_other, set-set}
+use Rattle.std.proofs.Common.{arith, ◌∙◌, get_or-set_same, get_or-set_other, set-set, List, [], ◌∷◌, map}
 use Rattle.std.proofs.Math.Path.{refl, sym, ap}
-use mathlib.Core.List.{List, [], ◌∷◌, map, flat_map}
+use mathlib.Core.List.{flat_map}
 use Rattle.std.proofs.Math.Arith.{bin_ind, digits_div, digits_mod}
 use Rattle.std.specs.Int.Bits.{bit_or, or_step, or_self}
 use Rattle.std.proofs.lemmas.Nat.{or_comm}

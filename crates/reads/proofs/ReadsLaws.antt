@@ -1,9 +1,9 @@
 -- The laws of sequence, one run on images that agree at the bits read, and how it is shown that a fact holds on one image or always, and that two programs
 -- are the same on every image. Assumes nothing.
 use Rattle.std.specs.Prelude.{ℕ, Bool, true, false, cond, ◌≡◌, refl}
-use Rattle.std.proofs.Common.{sym, ap, ap₂, ◌∙◌}
+use Rattle.std.proofs.Common.{sym, ap, ap₂, ◌∙◌, List, ◌∷◌, ◌++◌}
 use Rattle.std.proofs.Math.Path.{fun_ext}
-use mathlib.Core.List.{List, ◌∷◌, ◌++◌, Memᴰ}
+use mathlib.Core.List.{Memᴰ}
 use Rattle.reads.specs.Reads.{Reads, done, read, ◌>>=◌, value, trace}
 use Rattle.reads.specs.ReadsLaws.{On, Always, Same, Agree}
 

@@ -1,5 +1,5 @@
 -- Ones from a place of a word on: what the laws of masks speak of.
-use Prim.Native.Nat.{ℕ, ◌-◌, ◌*◌, ◌^◌}
+use Rattle.std.specs.Prelude.{ℕ, ◌-◌, ◌*◌, ◌^◌}
 
 -- n ones from place p on
 abbrev pub mask : ℕ → ℕ → ℕ

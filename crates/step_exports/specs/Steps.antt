@@ -1,12 +1,12 @@
 -- What every exported step promises, and its results as words. Definitions only. Assumes nothing.
 use Rattle.std.specs.Prelude.{Option, ℕ, ◌+◌, ◌<◌, Bool, true, ◌≡◌, List, [], ◌∷◌, get_or}
+use Rattle.std.specs.Option.{option_map_or}
 use Rattle.std.specs.Float.{binary32, binary64}
 use Rattle.std.specs.Float.Ieee.{of_bits, to_bits}
 use Rattle.reads.specs.Reads.{Reads, done, ◌>>=◌}
 use Rattle.reads.specs.Bits.{digit}
 use Rattle.bit_matrix.specs.declared.Shape.{Shape}
 use Rattle.bit_matrix.specs.Shape.{shape_of}
-use Rattle.bit_matrix.specs.Pixels.{if_sample}
 use Rattle.rxing_result_point.specs.declared.Point.{Point}
 use Rattle.rxing_result_point.specs.declared.PointU.{PointU}
 use Rattle.detector_size.specs.declared.Size.{Size}
@@ -89,7 +89,7 @@ width_words w = w.length ∷ to_bits binary32 w.left.x ∷ to_bits binary32 w.le
 
 -- 0 white, 1 black, 2 outside
 unfoldable pub sample_number : Option Bool → ℕ
-sample_number = if_sample 2 digit
+sample_number sample = option_map_or digit sample 2
 
 -- a program whose result is written as f says
 unfoldable pub through : {A B : Type 0} → (A → B) → Reads A → Reads B
