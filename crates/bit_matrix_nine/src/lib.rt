@@ -14,7 +14,10 @@ pub fn in_words(shape: Shape, x: u32, y: u32) -> bool
     requires { Limits shape }
     ensures { result ≡ true → InWords shape x y }
 {
-    x >= 1 && y >= 1 && x < shape.width - 1 && y < shape.height - 1 && (x - 1) % 64 <= 61
+    if x < 1 || y < 1 || x >= shape.width - 1 || y >= shape.height - 1 {
+        return false;
+    }
+    (x - 1) % 64 <= 61
 }
 
 // Three bits of a word from bit `shift` on, as a number. They are marked.

@@ -1,6 +1,6 @@
 -- Near pairs, inputs that the rules tell apart by little, as one table: a field for each case says what a step's definition gives. `cases` proves the
 -- table, by computation. Assumes nothing.
-use Rattle.std.specs.Prelude.{ℕ, ◌+◌, ◌*◌, ◌-◌, ◌/◌, ◌%◌, ◌^◌, Bool, true, false, ◌≡◌, refl, eqb, set, replicate, drop}
+use Rattle.std.specs.Prelude.{ℕ, ◌+◌, ◌*◌, ◌-◌, ◌/◌, ◌%◌, ◌^◌, Bool, true, false, ◌≡◌, refl, eqb, set, replicate, drop, Option, Some}
 use mathlib.Core.List.{List, [], ◌∷◌, ◌++◌, map, flat_map}
 use Rattle.std.specs.Int.Count.{ones}
 use Rattle.std.specs.Float.Ieee.{size, round, of_bits, of_int, add, sub, mul, div, lt, to_unsigned, to_signed}
@@ -14,8 +14,6 @@ use Rattle.reads.specs.Runs.{value_of}
 use Rattle.bit_matrix.specs.Shape.{shape_of}
 use Rattle.bit_matrix.specs.Pixels.{pixel, try_get}
 use Rattle.bit_matrix_area.specs.Area.{count_black, try_get_area}
-use Rattle.bit_matrix.specs.declared.Sample.{Sample}
-use Rattle.bit_matrix.specs.declared.Sample.TheVariants.{Inside}
 use Rattle.rxing_result_point.specs.Points.{real}
 use Rattle.detector_widths.specs.Widths.{even_runs_pass, odd_runs_pass, valid_widths}
 use Rattle.detector_widths.specs.Buckets.{bump}
@@ -55,7 +53,7 @@ abbrev pub window_of : ℕ → Bullseye
 window_of first = value_of (next_bullseye (shape_of 33 33) 6 6) (replicate 6 0 ++ 0x555 * 2 ^ first ∷ replicate 26 0)
 
 -- the area at a pixel, of 33 columns and rows of one word each; the list gives the first rows, and the others are white
-abbrev pub area_at : ℕ → ℕ → List ℕ → Sample
+abbrev pub area_at : ℕ → ℕ → List ℕ → Option Bool
 area_at x y words = value_of (try_get_area (shape_of 33 33) x y) words
 
 -- the numbers below n with so many one bits: arrangements of black pixels, a bit each
@@ -63,10 +61,10 @@ abbrev pub with_ones : ℕ → ℕ → List ℕ
 with_ones count n = filter (λ (a : ℕ). eqb (ones a) count) (range 0 n)
 
 -- an arrangement of four pixels at (0, 0), two in a row, and of nine about (1, 1), three in a row
-abbrev pub area_of_four : ℕ → Sample
+abbrev pub area_of_four : ℕ → Option Bool
 area_of_four a = area_at 0 0 (a % 2 ^ 2 ∷ a / 2 ^ 2 ∷ [])
 
-abbrev pub area_of_nine : ℕ → Sample
+abbrev pub area_of_nine : ℕ → Option Bool
 area_of_nine a = area_at 1 1 (a % 2 ^ 3 ∷ a / 2 ^ 3 % 2 ^ 3 ∷ a / 2 ^ 6 ∷ [])
 
 -- the candidates within the deviation
@@ -123,10 +121,10 @@ pub record Cases : Type 0 where
   pub runs_from_15 : window_of 15 ≡ record { found = true; center = 20; radius = 6; buckets = equal 1 }
   pub runs_from_16 : window_of 16 ≡ none
   -- areas, in every arrangement
-  pub two_of_four : map area_of_four (with_ones 2 (2 ^ 4)) ≡ replicate 6 (Inside true)
-  pub one_of_four : map area_of_four (with_ones 1 (2 ^ 4)) ≡ replicate 4 (Inside false)
-  pub five_of_nine : map area_of_nine (with_ones 5 (2 ^ 9)) ≡ replicate 126 (Inside true)
-  pub four_of_nine : map area_of_nine (with_ones 4 (2 ^ 9)) ≡ replicate 126 (Inside false)
+  pub two_of_four : map area_of_four (with_ones 2 (2 ^ 4)) ≡ replicate 6 (Some true)
+  pub one_of_four : map area_of_four (with_ones 1 (2 ^ 4)) ≡ replicate 4 (Some false)
+  pub five_of_nine : map area_of_nine (with_ones 5 (2 ^ 9)) ≡ replicate 126 (Some true)
+  pub four_of_nine : map area_of_nine (with_ones 4 (2 ^ 9)) ≡ replicate 126 (Some false)
   -- row and column runs
   pub runs_all_10 : circle_variance (equal 10) (equal 10) ≡ real 10
   -- three candidates by their centres, whatever their other words a, b and d: the deviation of y is the root of 8 / 3, 1

@@ -9,11 +9,7 @@ ghost use Rattle.marks.specs.Marks.{ones_of};
 pub fn clear(marks: &mut [u64])
     ensures { marks.new ≡ zeros (length marks.old) }
 {
-    let mut cleared = 0;
-    while cleared < marks.len() {
-        marks[cleared] = 0;
-        cleared += 1;
-    }
+    marks.fill(0);
 }
 
 // The number of marked bits. The bound on the words keeps the number in a u32.
@@ -21,11 +17,5 @@ pub fn count_marks(marks: &[u64]) -> u32
     requires { length marks.now < 2 ^ 26 }
     ensures { result ≡ ones_of marks.now }
 {
-    let mut count: u32 = 0;
-    let mut i = 0;
-    while i < marks.len() {
-        count += u64::count_ones(marks[i]);
-        i += 1;
-    }
-    count
+    marks.iter().map(|word| word.count_ones()).sum()
 }

@@ -2,6 +2,7 @@
 -- Assumes nothing.
 use Prim.Native.Nat.{ℕ, ◌≤◌}
 use native.Mathlib.Omega.{arith}
+use Rattle.std.specs.Prelude.{Bool, Option}
 use mathlib.Core.Bool.{false}
 use mathlib.Core.Path.{◌≡◌, refl}
 use mathlib.Core.List.{List, [], ◌∷◌}
@@ -10,7 +11,6 @@ use lib.ListN.{length}
 use Rattle.reads.specs.Reads.{Reads}
 use Rattle.reads.specs.RunsClauses.{Ran}
 use Rattle.reads.proofs.RunsLaws.{ran_bind, ran_is}
-use Rattle.bit_matrix.specs.declared.Sample.{Sample}
 use Rattle.bit_matrix.specs.declared.Shape.{Shape}
 use Rattle.bit_matrix.specs.Shape.{shape_of}
 use Rattle.bit_matrix_area.specs.Area.{try_get_area}
@@ -45,7 +45,7 @@ module _ (w h : ℕ) {shape : Shape} (is : shape ≡ shape_of w h) {words m₀ m
       → Listed (concentric_circles (shape_of w h) capacity) capacity words m₀ records₀ r m₁ records₁
   listed capacity found = rw is at found
 
-  pub area_ran : (x y : ℕ) {a : Sample} {r : ℕ} → Ran (try_get_area shape x y) words m₀ a m₁ → r ≡ sample_number a
+  pub area_ran : (x y : ℕ) {a : Option Bool} {r : ℕ} → Ran (try_get_area shape x y) words m₀ a m₁ → r ≡ sample_number a
       → Ran (through sample_number (try_get_area (shape_of w h) x y)) words m₀ r m₁
   area_ran x y ran e = ran_through sample_number _ (rw is at ran) e
 

@@ -1,10 +1,9 @@
 -- What every exported step promises, and its results as words. Definitions only. Assumes nothing.
-use Rattle.std.specs.Prelude.{ℕ, ◌+◌, ◌<◌, Bool, true, ◌≡◌, List, [], ◌∷◌, get_or}
+use Rattle.std.specs.Prelude.{Option, ℕ, ◌+◌, ◌<◌, Bool, true, ◌≡◌, List, [], ◌∷◌, get_or}
 use Rattle.std.specs.Float.{binary32, binary64}
 use Rattle.std.specs.Float.Ieee.{of_bits, to_bits}
 use Rattle.reads.specs.Reads.{Reads, done, ◌>>=◌}
 use Rattle.reads.specs.Bits.{digit}
-use Rattle.bit_matrix.specs.declared.Sample.{Sample}
 use Rattle.bit_matrix.specs.declared.Shape.{Shape}
 use Rattle.bit_matrix.specs.Shape.{shape_of}
 use Rattle.bit_matrix.specs.Pixels.{if_sample}
@@ -89,7 +88,7 @@ unfolding to_bits
 width_words w = w.length ∷ to_bits binary32 w.left.x ∷ to_bits binary32 w.left.y ∷ to_bits binary32 w.right.x ∷ to_bits binary32 w.right.y ∷ []
 
 -- 0 white, 1 black, 2 outside
-unfoldable pub sample_number : Sample → ℕ
+unfoldable pub sample_number : Option Bool → ℕ
 sample_number = if_sample 2 digit
 
 -- a program whose result is written as f says

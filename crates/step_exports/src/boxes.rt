@@ -12,18 +12,15 @@ ghost use Rattle.detector_symbol.specs.Symbols.{with_symbol};
 ghost use Rattle.step_exports.specs.Steps.{Guarded, refused_answer, number_in, shape_in, pixel_in, circle_in, through, sample_number, width_words, pixel_words};
 
 use crate::guards::{REFUSED, is_image, is_lent, is_radius, shape_in};
-use bit_matrix::{Sample, Shape};
+use bit_matrix::Shape;
 use detector_circle::Circle;
 use rxing_result_point::PointU;
 use sines::Sines;
 
-fn sample_number(sample: Sample) -> u32
+fn sample_number(sample: Option<bool>) -> u32
     ensures { result ≡ sample_number sample }
 {
-    match sample {
-        Sample::Outside => 2,
-        Sample::Inside(black) => black as u32,
-    }
+    sample.map_or(2, u32::from)
 }
 
 // The colour about a pixel: 0 white, 1 black, 2 outside. The numbers: width, height, the pixel's column and row.

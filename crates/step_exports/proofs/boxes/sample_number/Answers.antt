@@ -1,12 +1,8 @@
 -- `step_exports::boxes::sample_number` meets its contract.
-use borrow.Author.Rules.{rules}
+use Rattle.std.proofs.Common.{rules}
 use Rattle.step_exports.specs.Steps.{sample_number}
 use Rattle.step_exports.proofs.boxes.sample_number.Goals as goal
 
-pub returns-in-Outside : goal.returns-in-Outside
+pub returns : goal.returns
 unfolding sample_number
-returns-in-Outside c = search rules
-
-pub returns-in-Inside : goal.returns-in-Inside
-unfolding sample_number
-returns-in-Inside c = search rules
+returns c = search rules
