@@ -14,6 +14,7 @@ use Rattle.records.specs.RecordsClauses.{Each}
 use Rattle.rxing_result_point.specs.Points.{real}
 use Rattle.detector_boundary.specs.declared.Boundary.{Boundary}
 use Rattle.detector_outcome.specs.declared.Turn.{Turn}
+use Rattle.detector_outcome.specs.Outcomes.{degree_of}
 use Rattle.detector_outcome.specs.OutcomesLaws.{Classed, class_by_outcome}
 use Rattle.detector_symbol.specs.declared.Symbol.{Symbol}
 use Rattle.detector_symbol.specs.Symbols.{with_symbol}
@@ -43,7 +44,7 @@ module _ (ellipse : Bool) (shape : Shape) where
       let fields = symbol_fields r (symbol_of b turn) whole in
       record {
         whole = whole_symbol r (symbol_of b turn) whole;
-        degree = turn.degree;
+        degree = degree_of turn.outcome;
         even = ended.even;
         low = ended.low;
         rotation = fields.rotation ∙ ended.rotation;

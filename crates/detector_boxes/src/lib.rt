@@ -2,8 +2,6 @@
 #![tactic(auto)]
 
 ghost use Rattle.reads.specs.RunsClauses.{Ran};
-ghost use Rattle.sines.specs.Sines.{sines};
-ghost use Rattle.std.specs.Prelude.{◌≡◌};
 ghost use Rattle.bit_matrix.specs.ShapeClauses.{Image};
 ghost use Rattle.records.specs.Records.{rows};
 ghost use Rattle.detector_boxes.specs.Boxing.{boxed, boxed_all};
@@ -12,28 +10,27 @@ ghost use Rattle.detector_boxes.specs.BoxingClauses.{Boxable, AllBoxable, Boxed}
 use bit_matrix::Shape;
 use detector_circle::Circle;
 use rxing_result_point::PointU;
+use sines::Sines;
 
-// A kept record with the words of its symbol.
+// A kept record gets the words of its symbol.
 fn box_record(
     words: &[u64],
     marks: &mut [u64],
-    fields: [u32; 40],
+    fields: &mut [u32; 40],
     shape: Shape,
-    table: &[f32; 360],
+    sines: &Sines,
     ellipse: bool,
-) -> [u32; 40]
-    requires { Image shape words.now marks.old × Boxable shape words.now fields × (table.now ≡ sines) }
-    ensures { Ran (boxed ellipse shape fields) words.now marks.old result marks.new }
+)
+    requires { Image shape words.now marks.old × Boxable shape words.now fields.old }
+    ensures { Ran (boxed ellipse shape fields.old) words.now marks.old fields.new marks.new }
 {
     let x = fields[records::CENTER_X];
     let y = fields[records::CENTER_Y];
     let radius = fields[records::RADIUS];
     let center = PointU { x, y };
     let circle = Circle { center, radius };
-    let symbol = detector_box::box_symbol(words, marks, shape, circle, table, ellipse);
-    let mut out = fields;
-    detector_symbol::symbol_fields(&mut out, symbol);
-    out
+    let symbol = detector_box::box_symbol(words, marks, shape, circle, sines, ellipse);
+    detector_symbol::symbol_fields(fields, symbol);
 }
 
 // The kept records, each with the words of its symbol, one after another.
@@ -43,19 +40,17 @@ fn box_records(
     records: &mut [u32],
     shape: Shape,
     kept: usize,
-    table: &[f32; 360],
+    sines: &Sines,
     ellipse: bool,
 )
-    requires { Image shape words.now marks.old × AllBoxable shape words.now kept records.old × (table.now ≡ sines) }
+    requires { Image shape words.now marks.old × AllBoxable shape words.now kept records.old }
     ensures { Boxed (boxed_all ellipse shape (rows kept records.old)) kept
         words.now marks.old records.old marks.new records.new }
 {
-    let mut i = 0usize;
-    while i < kept {
-        let fields = records::load(records, i);
-        let boxed = box_record(words, marks, fields, shape, table, ellipse);
-        records::store(records, i, &boxed);
-        i += 1;
+    for i in 0..kept {
+        let mut fields = records::load(records, i);
+        box_record(words, marks, &mut fields, shape, sines, ellipse);
+        records::store(records, i, &fields);
     }
 }
 
@@ -72,6 +67,6 @@ pub fn box_kept(
     ensures { Boxed (boxed_all ellipse shape (rows kept records.old)) kept
         words.now marks.old records.old marks.new records.new }
 {
-    let table = sines::table();
-    box_records(words, marks, records, shape, kept, &table, ellipse);
+    let sines = Sines::new();
+    box_records(words, marks, records, shape, kept, &sines, ellipse);
 }

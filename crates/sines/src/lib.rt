@@ -377,6 +377,7 @@ const SINES: [f32; 360] = [
 ];
 
 // The table of sines, to be made once and lent.
+#[derive(Drop)]
 pub struct Sines {
     values: [f32; 360],
     pub ghost are_sines: { values ≡ sines },

@@ -12,7 +12,6 @@ use lib.Ieee.{Float, binary32, binary64, of_bits, to_bits}
 use Rattle.bit_matrix.specs.declared.Shape.{Shape}
 use Rattle.bit_matrix.specs.Shape.{shape_of}
 use Rattle.bit_matrix.specs.ShapeClauses.{Image}
-use Rattle.sines.specs.Sines.{sines}
 use Rattle.records.specs.Records.{capacity_of, rows}
 use Rattle.records.specs.RecordsClauses.{Each}
 use Rattle.rxing_result_point.specs.declared.Point.{Point}
@@ -92,8 +91,8 @@ module _ (w h : ℕ) {shape : Shape} (is : shape ≡ shape_of w h) {b : Bool} wh
   pub image_as : {words marks : List ℕ} → Decides b (Image shape words marks) → Decides b (Image (shape_of w h) words marks)
   image_as d = rw is at d
 
-  pub lent_as : {words marks : List ℕ} {center : PointU} → Decides b (Lent shape words marks center sines)
-      → Decides b (Lent (shape_of w h) words marks center sines)
+  pub lent_as : {words marks : List ℕ} {center : PointU} → Decides b (Lent shape words marks center)
+      → Decides b (Lent (shape_of w h) words marks center)
   lent_as d = rw is at d
 
   pub centered_passed_as : {center : PointU} → Decides b (Centered shape center) → b ≡ true → Centered (shape_of w h) center
@@ -102,16 +101,13 @@ module _ (w h : ℕ) {shape : Shape} (is : shape ≡ shape_of w h) {b : Bool} wh
   pub image_passed_as : {words marks : List ℕ} → Decides b (Image shape words marks) → b ≡ true → Image (shape_of w h) words marks
   image_passed_as d = passed_test (image_as d)
 
-  pub lent_passed_as : {words marks : List ℕ} {center : PointU} → Decides b (Lent shape words marks center sines) → b ≡ true
-      → Lent (shape_of w h) words marks center sines
+  pub lent_passed_as : {words marks : List ℕ} {center : PointU} → Decides b (Lent shape words marks center) → b ≡ true
+      → Lent (shape_of w h) words marks center
   lent_passed_as d = passed_test (lent_as d)
 
--- lent with the table that was made
-pub lent_passed : {b : Bool} {shape : Shape} {words marks : List ℕ} {center : PointU} {table : List Float} → Decides b (Lent shape words marks center sines)
-    → b ≡ true → table ≡ sines → Lent shape words marks center table
-lent_passed d e same =
-    let lent = passed_test d e in
-    record { image = lent.image; inside = lent.inside; table_is = same }
+pub lent_passed : {b : Bool} {shape : Shape} {words marks : List ℕ} {center : PointU} → Decides b (Lent shape words marks center)
+    → b ≡ true → Lent shape words marks center
+lent_passed = passed_test
 
 pub small_passed : {b : Bool} {n : ℕ} {words : List ℕ} → Decides b (SmallTo n words) → b ≡ true → SmallTo n words
 small_passed = passed_test

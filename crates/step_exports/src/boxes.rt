@@ -3,7 +3,6 @@ ghost use Rattle.std.specs.Prelude.{false, ◌≡◌};
 ghost use Rattle.reads.specs.RunsClauses.{Ran};
 ghost use Rattle.bit_matrix.specs.ShapeClauses.{Image};
 ghost use Rattle.bit_matrix_area.specs.Area.{try_get_area};
-ghost use Rattle.sines.specs.Sines.{sines};
 ghost use Rattle.detector_walks.specs.Walks.{find_width_at_degree};
 ghost use Rattle.detector_walks.specs.WalksClauses.{Lent};
 ghost use Rattle.detector_center.specs.Center.{corrected};
@@ -16,6 +15,7 @@ use crate::guards::{REFUSED, is_image, is_lent, is_radius, shape_in};
 use bit_matrix::Shape;
 use detector_circle::Circle;
 use rxing_result_point::PointU;
+use sines::Sines;
 
 fn sample_number(sample: Option<bool>) -> u32
     ensures { result ≡ sample_number sample }
@@ -50,7 +50,7 @@ pub extern "C" fn step_find_width_at_degree(
     out: &mut [u32; 5],
 ) -> u32
     ensures { Guarded
-        (Lent (shape_in numbers.now) words.now marks.old (pixel_in numbers.now 2) sines)
+        (Lent (shape_in numbers.now) words.now marks.old (pixel_in numbers.now 2))
         ((result ≡ 0) × Ran (through width_words (find_width_at_degree (shape_in numbers.now) (pixel_in numbers.now 2) degree))
         words.now marks.old out.new marks.new)
         ((result ≡ refused_answer) × (marks.new ≡ marks.old) × (out.new ≡ out.old)) }
@@ -63,8 +63,8 @@ pub extern "C" fn step_find_width_at_degree(
     if !is_lent(words, marks, shape, center) {
         return REFUSED;
     }
-    let table = sines::table();
-    let width = detector_walks::find_width_at_degree(words, marks, shape, center, &table, degree);
+    let sines = Sines::new();
+    let width = detector_walks::find_width_at_degree(words, marks, shape, center, &sines, degree);
     let left = width.left;
     let right = width.right;
     *out = [
@@ -86,7 +86,7 @@ pub extern "C" fn step_corrected_center(
     out: &mut [u32; 2],
 ) -> u32
     ensures { Guarded
-        (Lent (shape_in numbers.now) words.now marks.old (pixel_in numbers.now 2) sines)
+        (Lent (shape_in numbers.now) words.now marks.old (pixel_in numbers.now 2))
         ((result ≡ 0) × Ran (through pixel_words (corrected (shape_in numbers.now) (pixel_in numbers.now 2)))
         words.now marks.old out.new marks.new)
         ((result ≡ refused_answer) × (marks.new ≡ marks.old) × (out.new ≡ out.old)) }
@@ -99,8 +99,8 @@ pub extern "C" fn step_corrected_center(
     if !is_lent(words, marks, shape, center) {
         return REFUSED;
     }
-    let table = sines::table();
-    let found = detector_center::corrected_center(words, marks, shape, center, &table);
+    let sines = Sines::new();
+    let found = detector_center::corrected_center(words, marks, shape, center, &sines);
     *out = [found.x, found.y];
     0
 }
@@ -113,11 +113,11 @@ fn boxed(
     shape: Shape,
     circle: Circle,
 ) -> [u32; 40]
-    requires { LentCircle shape words.now marks.old circle sines }
+    requires { LentCircle shape words.now marks.old circle }
     ensures { Ran (through (with_symbol fields) (symbol_at false shape circle)) words.now marks.old result marks.new }
 {
-    let table = sines::table();
-    let symbol = detector_box::box_symbol(words, marks, shape, circle, &table, false);
+    let sines = Sines::new();
+    let symbol = detector_box::box_symbol(words, marks, shape, circle, &sines, false);
     let mut out = fields;
     detector_symbol::symbol_fields(&mut out, symbol);
     out
@@ -132,7 +132,7 @@ pub extern "C" fn step_box_symbol(
     numbers: &[u32; 5],
 ) -> u32
     ensures { Guarded
-        (LentCircle (shape_in numbers.now) words.now marks.old (circle_in numbers.now 2) sines)
+        (LentCircle (shape_in numbers.now) words.now marks.old (circle_in numbers.now 2))
         ((result ≡ 0) × Ran (through (with_symbol fields.old) (symbol_at false (shape_in numbers.now) (circle_in numbers.now 2)))
         words.now marks.old fields.new marks.new)
         ((result ≡ refused_answer) × (marks.new ≡ marks.old) × (fields.new ≡ fields.old)) }

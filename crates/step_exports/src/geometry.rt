@@ -27,6 +27,7 @@ ghost use Rattle.step_exports.specs.Steps.{
 
 use crate::guards::{REFUSED, is_centered, is_radius, is_scale, shape_in};
 use rxing_result_point::{Point, PointU};
+use sines::Sines;
 
 // Width and height of a symbol, by a radius and the three percentages.
 #[unsafe(no_mangle)]
@@ -147,8 +148,7 @@ pub extern "C" fn step_get_point(numbers: &[u32; 5], out: &mut [u32; 2])
         x: numbers[2],
         y: numbers[3],
     };
-    let table = sines::table();
-    let point = rxing_result_point::get_point(center, original, &table, numbers[4]);
+    let point = rxing_result_point::get_point(center, original, &Sines::new(), numbers[4]);
     *out = [std::num::f32_to_bits_with_nan(point.x), std::num::f32_to_bits_with_nan(point.y)];
 }
 

@@ -2,7 +2,6 @@
 ghost use Rattle.std.specs.Prelude.{◌≡◌, ◌≤◌, ◌<◌, T, length};
 ghost use Rattle.bit_matrix.specs.Shape.{row_words};
 ghost use Rattle.bit_matrix.specs.ShapeClauses.{Limits, Image, Inside};
-ghost use Rattle.sines.specs.Sines.{sines};
 ghost use Rattle.detector_size.specs.SizeClauses.{is_scale};
 ghost use Rattle.detector_boundary.specs.BoundaryClauses.{Centered};
 ghost use Rattle.detector_walks.specs.WalksClauses.{Lent};
@@ -84,7 +83,7 @@ pub fn is_centered(shape: Shape, center: PointU) -> bool
 // Whether words and marks are an image of a shape, with the centre inside.
 pub fn is_lent(words: &[u64], marks: &[u64], shape: Shape, center: PointU) -> bool
     requires { shape.row_words ≡ row_words shape.width }
-    ensures { Decides result (Lent shape words.now marks.now center sines) }
+    ensures { Decides result (Lent shape words.now marks.now center) }
 {
     if !is_image(words, marks, shape) {
         return false;

@@ -3,12 +3,10 @@ use Prim.Native.Nat.{ℕ}
 use mathlib.Core.Path.{◌≡◌}
 use mathlib.Core.Bool.{Bool}
 use mathlib.Core.List.{List}
-use lib.Ieee.{Float}
 use Rattle.reads.specs.RunsClauses.{Ran}
 use Rattle.reads.proofs.RunsLaws.{ran_bind, ran_is}
 use Rattle.bit_matrix.specs.declared.Shape.{Shape}
 use Rattle.bit_matrix.specs.ShapeClauses.{Image}
-use Rattle.sines.specs.Sines.{sines}
 use Rattle.records.specs.Records.{Record}
 use Rattle.detector_turn.specs.ScalesClauses.{LentCircle}
 use Rattle.detector_box.specs.Boxes.{symbol_at}
@@ -19,12 +17,11 @@ use Rattle.detector_boxes.specs.Boxing.{circle_of, boxed}
 use Rattle.detector_boxes.specs.BoxingClauses.{Boxable}
 use Rattle.detector_boxes.proofs.box_record.Goals as goal
 
-lent : {shape : Shape} {words marks : List ℕ} {table : List Float} {r : Record} (ellipse : Bool) → Image shape words marks → Boxable shape words r
-    → table ≡ sines → LentCircle shape words marks (circle_of r) table
-    × FlankedWhen ellipse shape words (circle_of r).center
-lent ellipse image boxable same = (
+lent : {shape : Shape} {words marks : List ℕ} {r : Record} (ellipse : Bool) → Image shape words marks → Boxable shape words r
+    → LentCircle shape words marks (circle_of r) × FlankedWhen ellipse shape words (circle_of r).center
+lent ellipse image boxable = (
   record {
-    lent = record { image = image; inside = boxable.inside; table_is = same };
+    lent = record { image = image; inside = boxable.inside };
     least = boxable.least;
     most = boxable.most;
   },

@@ -27,7 +27,6 @@ begins : {words marks records : List ℕ} {shape : Shape} {kept : ℕ} (ellipse 
     → AllBoxable shape words kept records
     → Boxing words marks records shape kept ellipse marks records 0
 begins {records = records} {kept = kept} ellipse image all = record {
-  few = omega arith;
   image = image;
   each = all.each;
   beside = beside_start kept records all.held;
@@ -60,7 +59,6 @@ module _ {words marks₀ records₀ marks records : List ℕ} {shape : Shape} {k
         → Boxing words marks₀ records₀ shape kept ellipse marks' records' (i + 1)
     unfolding boxed_from
     onward {r} {b} {marks'} {records'} e ran whole long stored same = record {
-      few = omega arith;
       image = image_kept so_far.image long;
       each = so_far.each;
       beside = beside_then so_far.beside now same;
@@ -84,9 +82,9 @@ module _ {words marks₀ records₀ marks records : List ℕ} {shape : Shape} {k
             ap (take (i + 1)) now.records ∙ ap (λ (k : ℕ). take k (set (rows kept records) i b)) (add-one i)
             ∙ take-suc-set (rows kept records) i b (omega (arith, length_rows kept records))
 
-  over : kept ≤ i → Boxed (boxed_all ellipse shape (rows kept records₀)) kept words marks₀ records₀ marks records
+  over : kept ≤ i → i ≤ kept → Boxed (boxed_all ellipse shape (rows kept records₀)) kept words marks₀ records₀ marks records
   unfolding boxed_from
-  over h = record {
+  over h few = record {
     stored = record { records = all ∙ end.result; rest = so_far.beside.rest };
     marked = end.marked;
   }
@@ -96,7 +94,7 @@ module _ {words marks₀ records₀ marks records : List ℕ} {shape : Shape} {k
 
       none : drop i (rows kept records₀) ≡ []
       none =
-          let last : i ≡ length (rows kept records₀) = omega (arith, length_rows kept records₀, so_far.few) in
+          let last : i ≡ length (rows kept records₀) = omega (arith, length_rows kept records₀) in
           ap (λ (k : ℕ). drop k (rows kept records₀)) last ∙ drop-length (rows kept records₀)
 
       end : Ran (boxed_all ellipse shape (rows kept records₀)) words marks₀ (take i (rows kept records)) marks
@@ -105,8 +103,8 @@ module _ {words marks₀ records₀ marks records : List ℕ} {shape : Shape} {k
 pub loop-i-init : goal.loop-i-init
 loop-i-init c = search begins
 
-pub box_record-boxed-requires : goal.box_record-boxed-requires
-box_record-boxed-requires c = (search rules, search fit, search rules)
+pub box_record-requires : goal.box_record-requires
+box_record-requires c = (search rules, search fit)
 
 pub loop-i-preserved : goal.loop-i-preserved
 loop-i-preserved c = search (onward, rules)

@@ -1,6 +1,6 @@
 -- `detector_boxes::box_records` meets its contract. The invariant is `Boxing`: the records passed have their symbols, the others are as they were, and what
--- is left of the definition ends as the whole does. The measure is the records left.
-use Prim.Native.Nat.{ℕ, ◌-◌, ◌≤◌}
+-- is left of the definition ends as the whole does.
+use Prim.Native.Nat.{ℕ}
 use mathlib.Core.Bool.{Bool}
 use mathlib.Core.Path.{◌≡◌}
 use mathlib.Core.List.{List, []}
@@ -16,7 +16,6 @@ use Rattle.detector_boxes.proofs.OneByOne.{boxed_from}
 use Rattle.detector_boxes.proofs.box_records.Given as goal
 
 pub record Boxing (words marks₀ records₀ : List ℕ) (shape : Shape) (kept : ℕ) (ellipse : Bool) (marks records : List ℕ) (i : ℕ) : Type 0 where
-  pub few : i ≤ kept
   pub image : Image shape words marks
   pub each : Each (Boxable shape words) (rows kept records₀)
   pub beside : Beside kept records₀ records
@@ -27,6 +26,3 @@ pub record Boxing (words marks₀ records₀ : List ℕ) (shape : Shape) (kept :
 
 abbrev pub invariant-loop-i : goal.invariant-loop-i
 invariant-loop-i l = Boxing l.words l.initial.marks l.initial.records l.shape l.kept l.ellipse l.marks l.records l.i
-
-abbrev pub decreases-loop-i : goal.decreases-loop-i
-decreases-loop-i l = l.kept - l.i

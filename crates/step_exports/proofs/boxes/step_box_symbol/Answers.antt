@@ -18,7 +18,7 @@ returns-then-not-is_radius c = refuse_test c.is_radius.ensures c.if-not-is_radiu
 pub boxed-requires : goal.boxed-requires
 boxed-requires c =
     let radius = passed_test c.is_radius.ensures c.if-not-is_radius.false in
-    record { lent = lent_passed c.is_lent.ensures c.if-not-is_lent.false refl; least = radius.0; most = radius.1 }
+    record { lent = lent_passed c.is_lent.ensures c.if-not-is_lent.false; least = radius.0; most = radius.1 }
 
 pub returns : goal.returns
 returns c =

@@ -14,7 +14,7 @@ returns-then-not-is_lent c = refuse_test (lent_as _ _ (search rules) c.is_lent.e
 
 pub corrected_center-found-requires : goal.corrected_center-found-requires
 corrected_center-found-requires c =
-    lent_passed c.is_lent.ensures c.if-not-is_lent.false (search rules)
+    lent_passed c.is_lent.ensures c.if-not-is_lent.false
 
 pub returns : goal.returns
 returns c = answer (search lent_passed_as) (refl, search corrected_ran)

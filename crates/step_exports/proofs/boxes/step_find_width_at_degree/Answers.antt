@@ -14,7 +14,7 @@ returns-then-not-is_lent c = refuse_test (lent_as _ _ (search rules) c.is_lent.e
 
 pub find_width_at_degree-width-requires : goal.find_width_at_degree-width-requires
 find_width_at_degree-width-requires c =
-    lent_passed c.is_lent.ensures c.if-not-is_lent.false (search rules)
+    lent_passed c.is_lent.ensures c.if-not-is_lent.false
 
 pub returns : goal.returns
 returns c = answer (search lent_passed_as) (refl, search walked_ran)

@@ -1,5 +1,4 @@
 -- `step_exports::guards::is_lent` meets its contract.
-use mathlib.Core.Path.{refl}
 use Rattle.step_exports.proofs.Guarding.{passed_test, failed_test, decides_false, decides_rest}
 use Rattle.step_exports.proofs.guards.is_lent.Goals as goal
 
@@ -9,4 +8,4 @@ returns-then-not-is_image c = decides_false (λ p. failed_test c.is_image.ensure
 pub returns : goal.returns
 returns c =
     let image = passed_test c.is_image.ensures c.if-not-is_image.false in
-    decides_rest c.is_inside.ensures (λ inside. record { image = image; inside = inside; table_is = refl }) (λ p. p.inside)
+    decides_rest c.is_inside.ensures (λ inside. record { image = image; inside = inside }) (λ p. p.inside)
