@@ -1,26 +1,16 @@
 -- A buffer of candidates, and one more of them. Assumes nothing.
-use Prim.Native.Nat.{ℕ, zero, suc, ◌+◌, ◌*◌, ◌≤◌, min}
-use native.Mathlib.Nat.{suc-add, min-eq_left, min-eq_right}
-use native.Mathlib.Omega.{arith}
-use mathlib.Core.Path.{◌≡◌, refl, sym, ap, ◌∙◌}
-use mathlib.Core.Bool.{Bool, true, false, cond}
-use mathlib.Core.List.{List, [], ◌∷◌, ◌++◌}
-use lib.ListN.{length, take, drop, set, length-append}
-use lib.Seq.{take_all, take_at}
+use Rattle.std.proofs.Common.{◌<◌, ℕ, zero, suc, ◌+◌, ◌*◌, ◌≤◌, min, suc-add, arith, ◌≡◌, refl, sym, ap, ◌∙◌, List, [], ◌∷◌, ◌++◌, length, take, drop, set, length-append, take_all, take_at, Option, Some, None}
+use Rattle.std.proofs.Math.Nat.{min-eq_left, min-eq_right}
 use Rattle.records.specs.Records.{Record, rows}
 use Rattle.records.specs.RecordsClauses.{put, Became}
 use Rattle.records.specs.RecordsLaws.{length_rows, drop_later, replaced}
 use Rattle.detector_candidates.specs.Candidates.{after}
 use Rattle.detector_candidates.specs.CandidatesClauses.{Room, Stored}
-use Rattle.detector_candidate.specs.declared.Searched.{Searched}
 
 -- candidates are only added
-pub after_more : (circles : List Record) (s : Searched) → length circles ≤ length (after circles s)
-after_more circles s = go s.passed
-  where
-    go : (b : Bool) → length circles ≤ length (cond b (circles ++ s.candidate ∷ []) circles)
-    go true = simp length-append (omega arith)
-    go false = omega arith
+pub after_more : (circles : List Record) (candidate : Option Record) → length circles ≤ length (after circles candidate)
+after_more circles None = omega arith
+after_more circles (Some candidate) = simp length-append (omega arith)
 
 -- the last record replaced
 set_last : (n : ℕ) (l : List ℕ) (r : Record) → set (rows (n + 1) l) n r ≡ rows n l ++ r ∷ []
@@ -46,28 +36,29 @@ pub stored_rest : {capacity : ℕ} {before : List ℕ} {circles : List Record} {
     → Stored capacity before circles count records → count ≤ capacity → drop (40 * count) records ≡ drop (40 * count) before
 stored_rest stored few = rw (min-eq_left few) at stored.written.rest
 
-module _ {capacity : ℕ} {records : List ℕ} {count : ℕ} (room : Room capacity records count) (s : Searched) where
-  pub none_more : s.passed ≡ false → Stored capacity records (after (rows count records) s) count records
-  none_more e = rw e (stored_all (rows count records) (sym (length_rows count records)) room.few (record { records = refl; rest = refl }))
+module _ {capacity : ℕ} {records : List ℕ} {count : ℕ} (room : Room capacity records count) where
+  pub none_more : Stored capacity records (rows count records) count records
+  none_more = stored_all (rows count records) (sym (length_rows count records)) room.few (record { records = refl; rest = refl })
 
-  more : length (rows count records ++ s.candidate ∷ []) ≡ count + 1
-  more = simp (length-append, length_rows) refl
+  module _ (candidate : Record) where
+    more : length (rows count records ++ candidate ∷ []) ≡ count + 1
+    more = simp (length-append, length_rows) refl
 
-  -- the one that is too many
-  pub one_too_many : s.passed ≡ true → count ≡ capacity → Stored capacity records (after (rows count records) s) (count + 1) records
-  one_too_many e full =
-      let most : capacity ≤ count + 1 = omega arith in
-      let front : take capacity (rows count records ++ s.candidate ∷ []) ≡ rows capacity records =
-      take_at (rows count records) (s.candidate ∷ []) capacity (length_rows count records ∙ full) ∙ ap (λ (n : ℕ). rows n records) full in
-      rw e (record { counted = sym more; written = rw (min-eq_right most, front) (record { records = refl; rest = refl }) })
+    -- the one that is too many
+    pub one_too_many : capacity ≤ count → Stored capacity records (rows count records ++ candidate ∷ []) (count + 1) records
+    one_too_many h =
+        let full : count ≡ capacity = omega (arith, room.few) in
+        let most : capacity ≤ count + 1 = omega arith in
+        let front : take capacity (rows count records ++ candidate ∷ []) ≡ rows capacity records =
+        take_at (rows count records) (candidate ∷ []) capacity (length_rows count records ∙ full) ∙ ap (λ (n : ℕ). rows n records) full in
+        record { counted = sym more; written = rw (min-eq_right most, front) (record { records = refl; rest = refl }) }
 
-  pub one_more : {records' : List ℕ} → s.passed ≡ true → (count ≡ capacity → ⊥) → length s.candidate ≡ 40
-      → records' ≡ put records count s.candidate → Stored capacity records (after (rows count records) s) (count + 1) records'
-  one_more {records'} e other whole put =
-      let became = replaced (count + 1) records count s.candidate records' put (omega arith) (omega (arith, room.few, room.held)) whole in
-      rw e
-      (stored_all (rows count records ++ s.candidate ∷ []) (sym more) (omega (arith, room.few))
-      (record { records = became.records ∙ set_last count records s.candidate; rest = became.rest }))
+    pub one_more : {records' : List ℕ} → count < capacity → length candidate ≡ 40
+        → records' ≡ put records count candidate → Stored capacity records (rows count records ++ candidate ∷ []) (count + 1) records'
+    one_more {records'} few whole put =
+        let became = replaced (count + 1) records count candidate records' put (omega arith) (omega (arith, room.held)) whole in
+        stored_all (rows count records ++ candidate ∷ []) (sym more) (omega arith)
+        (record { records = became.records ∙ set_last count records candidate; rest = became.rest })
 
 -- what is behind the candidates so far was never written
 pub stored_since : {capacity : ℕ} {before middle : List ℕ} {circles : List Record} {count found : ℕ} {records : List ℕ}

@@ -1,16 +1,21 @@
 -- `find_concentric_circles` of detector.rs as a reading program (docs/MANUAL.md, "How a search decides"). `valid` is the test of the
 -- widths, the whole-number one or the source's in f32 (detector_widths/specs/). Definitions only. Assumes nothing.
-use Rattle.std.specs.Prelude.{ℕ, zero, suc, ◌+◌, ◌-◌, Bool, cond, ◌||◌, List, [], ◌∷◌, ◌++◌, ltb, length}
+use Rattle.std.specs.Prelude.{ℕ, zero, suc, ◌+◌, ◌-◌, Bool, cond, List, [], ◌∷◌, ◌++◌, ltb, length, Option, Some, None}
 use Rattle.reads.specs.Reads.{Reads, done, ◌>>=◌}
 use Rattle.records.specs.Records.{Record}
 use Rattle.bit_matrix.specs.declared.Shape.{Shape}
 use Rattle.detector_widths.specs.Widths.{valid_widths}
-use Rattle.detector_candidate.specs.declared.Searched.{Searched}
 use Rattle.detector_candidate.specs.Candidate.{search_by}
 
--- the candidates after a search
-abbrev pub after : List Record → Searched → List Record
-after circles s = cond s.passed (circles ++ s.candidate ∷ []) circles
+-- the candidates after a search, by the one that it found, if it found one
+abbrev pub after : List Record → Option Record → List Record
+after circles None = circles
+after circles (Some candidate) = circles ++ candidate ∷ []
+
+-- the row goes on where the next search starts, or ends
+abbrev pub row_on : Option ℕ → List Record → (ℕ → Reads (List Record)) → Reads (List Record)
+row_on None circles rest = done circles
+row_on (Some column) circles rest = rest column
 
 -- the sweep, over at most `capacity` candidates and the one after them, which ends it
 module _ (valid : List ℕ → Bool) (shape : Shape) (capacity : ℕ) where
@@ -19,8 +24,8 @@ module _ (valid : List ℕ → Bool) (shape : Shape) (capacity : ℕ) where
   row_by zero row column circles = done circles
   row_by (suc n) row column circles = do
     s ← search_by valid shape row column
-    let now = after circles s
-    cond (s.ended || ltb capacity (length now)) (done now) (row_by n row s.column now)
+    let now = after circles s.candidate
+    cond (ltb capacity (length now)) (done now) (row_on s.next now (λ further. row_by n row further now))
 
   -- every second row, below the height less six; the height is more than enough fuel
   unfoldable pub rows_by : ℕ → ℕ → List Record → Reads (List Record)

@@ -1,12 +1,8 @@
 -- What holds of the sweep, on the image at hand: each candidate is fit for the steps after the sweep; and that the sweep with the source's test
 -- of the widths is the same. Assumes nothing.
-use Prim.Native.Nat.{ℕ, zero, suc, ◌+◌, ◌-◌, ◌≤◌}
-use Rattle.std.proofs.Common.{arith, true≢false, length-append}
-use Rattle.std.specs.Prelude.{◌≡◌, refl, Bool, true, false, cond, ◌||◌, length}
-use mathlib.Core.List.{List, [], ◌∷◌, ◌++◌}
-use borrow.Author.Tests.{ltb-true, ltb-false}
+use Rattle.std.proofs.Common.{Option, Some, None, IfSome, ℕ, zero, suc, ◌+◌, ◌-◌, ◌≤◌, arith, length-append, Bool, length, List, [], ◌∷◌, ◌++◌, ltb-true, ltb-false}
 use Rattle.std.proofs.Math.Dec.{ltb}
-use Rattle.reads.specs.Reads.{Reads, done}
+use Rattle.reads.specs.Reads.{Reads}
 use Rattle.reads.specs.ReadsLaws.{On, Same}
 use Rattle.reads.proofs.ReadsLaws.{on_done, on_bind, on_cond, same_refl, same_after, same_cond}
 use Rattle.records.specs.Records.{Record}
@@ -14,19 +10,10 @@ use Rattle.records.specs.RecordsClauses.{Each}
 use Rattle.bit_matrix.specs.declared.Shape.{Shape}
 use Rattle.bit_matrix.specs.ShapeClauses.{Limits}
 use Rattle.detector_widths.specs.WidthsF32.{valid_widths_f32}
-use Rattle.detector_candidates.specs.Candidates.{after, row_by, rows_by, concentric_circles_by, concentric_circles}
+use Rattle.detector_candidates.specs.Candidates.{after, row_on, row_by, rows_by, concentric_circles_by, concentric_circles}
 use Rattle.detector_candidate.specs.CandidateClauses.{Searchable}
 use Rattle.detector_candidates.specs.CandidatesClauses.{row_from, rows_from}
-use Rattle.detector_candidate.specs.declared.Searched.{Searched}
-use Rattle.detector_candidate.specs.CandidateLaws.{Candidate, searchable_next, searchable_first, FitSearch, search_fit, same_search}
-
-or_left : (a b : Bool) → (a || b) ≡ false → a ≡ false
-or_left true b e = e
-or_left false b e = refl
-
-or_right : (a b : Bool) → (a || b) ≡ false → b ≡ false
-or_right true b e = absurd (true≢false e)
-or_right false b e = e
+use Rattle.detector_candidate.specs.CandidateLaws.{Candidate, Further, searchable_next, searchable_first, search_fit, same_search}
 
 each_append : (P : Record → Type 0) (rs : List Record) (r : Record) → Each P rs → P r → Each P (rs ++ r ∷ [])
 unfolding Each
@@ -40,23 +27,19 @@ module _ (shape : Shape) (image : ℕ → Bool) (capacity : ℕ) where
   abbrev SweptCandidates : List Record → Type 0
   SweptCandidates circles = Each (Candidate shape image) circles × (length circles ≤ capacity + 1)
 
-  -- after a search
-  step_fit : {row column : ℕ} (s : Searched) (now : List Record) (rest : Reads (List Record)) → Searchable shape row column → FitSearch shape image column s
-      → SweptCandidates now → (Searchable shape row s.column → length now ≤ capacity → On image SweptCandidates rest)
-      → On image SweptCandidates (cond (s.ended || ltb capacity (length now)) (done now) rest)
-  step_fit s now rest at fits held goes =
-      on_cond image (s.ended || ltb capacity (length now))
-      (λ _. on_done image held)
-      (λ on. goes (searchable_next at fits.onward (or_left s.ended _ on)) (ltb-false capacity (length now) (or_right s.ended _ on)))
-
   -- the candidates after a search
-  now_fit : {column : ℕ} (s : Searched) (circles : List Record) → FitSearch shape image column s
-      → Each (Candidate shape image) circles → length circles ≤ capacity → SweptCandidates (after circles s)
-  now_fit s circles fits each few = go s.passed refl
-    where
-      go : (b : Bool) → s.passed ≡ b → SweptCandidates (cond b (circles ++ s.candidate ∷ []) circles)
-      go true e = (each_append (Candidate shape image) circles s.candidate each (fits.fit e), simp length-append (omega arith))
-      go false e = (each, omega arith)
+  now_fit : (candidate : Option Record) (circles : List Record) → IfSome candidate (Candidate shape image)
+      → Each (Candidate shape image) circles → length circles ≤ capacity → SweptCandidates (after circles candidate)
+  now_fit None circles _ each few = (each, omega arith)
+  now_fit (Some candidate) circles fits each few =
+      (each_append (Candidate shape image) circles candidate each fits, simp length-append (omega arith))
+
+  -- where the row goes on
+  next_fit : {row column : ℕ} (next : Option ℕ) (now : List Record) (rest : ℕ → Reads (List Record)) → Searchable shape row column
+      → IfSome next (Further shape.width column) → SweptCandidates now
+      → ((further : ℕ) → Searchable shape row further → On image SweptCandidates (rest further)) → On image SweptCandidates (row_on next now rest)
+  next_fit None now rest at _ held goes = on_done image held
+  next_fit (Some further) now rest at onward held goes = goes further (searchable_next at onward)
 
   row_fit : (n row column : ℕ) (circles : List Record) → Limits shape → Searchable shape row column
       → Each (Candidate shape image) circles → length circles ≤ capacity → On image SweptCandidates (row_from shape capacity n row column circles)
@@ -64,8 +47,12 @@ module _ (shape : Shape) (image : ℕ → Bool) (capacity : ℕ) where
   row_fit zero row column circles limits at each few = on_done image (each, omega arith)
   row_fit (suc n) row column circles limits at each few =
       on_bind image _ (search_fit shape image row column limits at) λ s fits.
-      let held = now_fit s circles fits each few in
-      step_fit s _ _ at fits held (λ next short. row_fit n row s.column _ limits next held.0 short)
+      let now = after circles s.candidate in
+      let held = now_fit s.candidate circles fits.fit each few in
+      on_cond image (ltb capacity (length now))
+      (λ _. on_done image held)
+      (λ room. next_fit s.next now _ at fits.onward held
+      (λ further there. row_fit n row further now limits there held.0 (ltb-false capacity (length now) room)))
 
   rows_fit : (n row : ℕ) (circles : List Record) → Limits shape → Each (Candidate shape image) circles → length circles ≤ capacity
       → On image SweptCandidates (rows_from shape capacity n row circles)
@@ -89,6 +76,11 @@ all_candidates shape capacity limits image = rows_fit shape image capacity shape
 
 -- ---- with the source's test of the widths
 
+same_on : (next : Option ℕ) (now : List Record) (p q : ℕ → Reads (List Record)) → ((further : ℕ) → Same (p further) (q further))
+    → Same (row_on next now p) (row_on next now q)
+same_on None now p q same = same_refl
+same_on (Some further) now p q same = same further
+
 module _ (shape : Shape) (narrow : shape.width ≤ 2048) (low : shape.height ≤ 2048) where
   module _ (capacity : ℕ) where
     same_row : (n row column : ℕ) (circles : List Record)
@@ -97,7 +89,8 @@ module _ (shape : Shape) (narrow : shape.width ≤ 2048) (low : shape.height ≤
     same_row zero row column circles = same_refl
     same_row (suc n) row column circles =
         same_after _ _ (same_search shape narrow low row column) λ s.
-        same_cond (s.ended || ltb capacity (length (after circles s))) (λ _. same_refl) λ _. same_row n row s.column (after circles s)
+        let now = after circles s.candidate in
+        same_cond (ltb capacity (length now)) (λ _. same_refl) λ _. same_on s.next now _ _ (λ further. same_row n row further now)
 
     same_rows : (n row : ℕ) (circles : List Record)
         → Same (rows_by valid_widths_f32 shape capacity n row circles) (rows_from shape capacity n row circles)

@@ -8,21 +8,18 @@ ghost use Rattle.detector_candidates.specs.Candidates.{after, concentric_circles
 ghost use Rattle.detector_candidates.specs.CandidatesClauses.{row_from, Room, Stored, Listed};
 
 use bit_matrix::Shape;
-use detector_candidate::Searched;
 
-// A search's candidate goes behind the others. One more than the capacity is counted and not stored.
-fn append(records: &mut [u32], capacity: usize, count: usize, s: Searched) -> usize
+// A candidate goes behind the others. One more than the capacity is counted and not stored.
+fn append(records: &mut [u32], capacity: usize, count: usize, candidate: Option<[u32; 40]>) -> usize
     requires { Room capacity records.old count }
-    ensures { Stored capacity records.old (after (rows count records.old) s) result records.new }
+    ensures { Stored capacity records.old (after (rows count records.old) candidate) result records.new }
 {
-    if !s.passed {
+    let Some(candidate) = candidate else {
         return count;
+    };
+    if count < capacity {
+        records::store(records, count, &candidate);
     }
-    if count == capacity {
-        return count + 1;
-    }
-    let candidate = s.candidate;
-    records::store(records, count, &candidate);
     count + 1
 }
 
@@ -41,17 +38,14 @@ fn sweep_row(
         words.now marks.old records.old result marks.new records.new }
 {
     let mut count = found;
-    let mut column = 6u32;
-    while column < shape.width - 6 {
+    let mut next = Some(6);
+    while let Some(column) = next {
         let s = detector_candidate::search_from(words, marks, shape, row, column);
-        count = append(records, capacity, count, s);
-        if s.ended {
-            return count;
-        }
+        count = append(records, capacity, count, s.candidate);
         if count > capacity {
             return count;
         }
-        column = s.column;
+        next = s.next;
     }
     count
 }
@@ -68,14 +62,12 @@ pub fn find_concentric_circles(
     ensures { Listed (concentric_circles shape capacity) capacity
         words.now marks.old records.old result marks.new records.new }
 {
-    let mut found = 0usize;
-    let mut row = 6u32;
-    while row < shape.height - 6 {
+    let mut found = 0;
+    for row in (6..shape.height - 6).step_by(2) {
         found = sweep_row(words, marks, records, shape, capacity, row, found);
         if found > capacity {
             return found;
         }
-        row += 2;
     }
     found
 }

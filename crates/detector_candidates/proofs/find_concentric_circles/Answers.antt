@@ -1,8 +1,5 @@
 -- `detector_candidates::find_concentric_circles` meets its contract.
-use Prim.Native.Nat.{ℕ}
-use mathlib.Core.Path.{refl}
-use mathlib.Core.List.{List}
-use native.Mathlib.Omega.{arith}
+use Rattle.std.proofs.Common.{ℕ, refl, List, arith}
 use Rattle.reads.proofs.RunsLaws.{resumes_start}
 use Rattle.records.specs.Records.{rows}
 use Rattle.bit_matrix.specs.declared.Shape.{Shape}
@@ -28,6 +25,9 @@ begins {shape = shape} image room = record {
 pub loop-row-init : goal.loop-row-init
 loop-row-init c = search begins
 
+pub sweep_row-found-requires : goal.sweep_row-found-requires
+sweep_row-found-requires c = (c.loop-row.invariant.image, omega arith, c.loop-row.invariant.room)
+
 pub returns-then-found-capacity : goal.returns-then-found-capacity
 returns-then-found-capacity c = search at_full
 
@@ -36,3 +36,9 @@ loop-row-preserved c = search onward
 
 pub returns : goal.returns
 returns c = search past
+
+pub returns-else-found-capacity : goal.returns-else-found-capacity
+returns-else-found-capacity c =
+    past
+    (onward c.loop-row.invariant c.loop-row-test.true c.sweep_row-found.ensures c.if-found-capacity.false c.sweep_row-found.auto.marks c.sweep_row-found.auto.records)
+    (omega arith)

@@ -1,13 +1,6 @@
 -- `detector_candidates::find_concentric_circles` meets its contract. The invariant is `Sweeping`: with some fuel, what is left of the sweep ends as the whole
--- does, and only the candidates so far were written. The measure is the rows left.
-use Prim.Native.Nat.{ℕ, zero, suc, ◌+◌, ◌-◌, ◌*◌, ◌≤◌, ◌<◌}
-use mathlib.Core.Path.{◌≡◌, refl, sym, ◌∙◌}
-use mathlib.Core.Bool.{cond, ◌||◌}
-use mathlib.Core.List.{List}
-use native.Mathlib.Omega.{arith}
-use borrow.Author.Tests.{lt-ltb, le-ltb}
-use lib.Dec.{ltb}
-use lib.ListN.{length, drop}
+-- does, and only the candidates so far were written.
+use Rattle.std.proofs.Common.{ℕ, zero, suc, ◌+◌, ◌-◌, ◌*◌, ◌≤◌, ◌<◌, ◌≡◌, refl, sym, ◌∙◌, cond, List, arith, lt-ltb, le-ltb, ltb, length, drop, Option, Some, None}
 use Rattle.reads.specs.Reads.{Reads, done}
 use Rattle.reads.specs.ReadsLaws.{Always}
 use Rattle.reads.proofs.ReadsLaws.{always_done, always_after, always_cond}
@@ -21,9 +14,15 @@ use Rattle.bit_matrix.specs.ShapeClauses.{Image}
 use Rattle.bit_matrix.specs.ShapeLaws.{image_kept}
 use Rattle.detector_candidate.specs.CandidateClauses.{search_from}
 use Rattle.detector_candidates.specs.CandidatesClauses.{row_from, rows_from, Room, Listed}
-use Rattle.detector_candidates.specs.Candidates.{after, row_by, rows_by, concentric_circles}
+use Rattle.detector_candidates.specs.Candidates.{after, row_on, row_by, rows_by, concentric_circles}
 use Rattle.detector_candidates.proofs.Storing.{after_more, stored_all, stored_rows, stored_rest, stored_since}
 use Rattle.detector_candidates.proofs.find_concentric_circles.Given as goal
+
+on_more : {least : ℕ} (next : Option ℕ) (now : List Record) (rest : ℕ → Reads (List Record)) → least ≤ length now
+    → ((further : ℕ) → Always (λ (circles : List Record). least ≤ length circles) (rest further))
+    → Always (λ (circles : List Record). least ≤ length circles) (row_on next now rest)
+on_more None now rest more goes = always_done more
+on_more (Some further) now rest more goes = goes further
 
 -- a row only adds candidates
 pub row_more : (shape : Shape) (capacity n row column : ℕ) (circles : List Record)
@@ -32,9 +31,11 @@ unfolding row_by
 row_more shape capacity zero row column circles = always_done (omega arith)
 row_more shape capacity (suc n) row column circles =
     always_after (search_from shape row column) _ λ s.
-    always_cond (s.ended || ltb capacity (length (after circles s)))
-    (λ _. always_done (after_more circles s))
-    (λ _. record { on = λ image. omega (arith, after_more circles s, (row_more shape capacity n row s.column (after circles s)).on image) })
+    let now = after circles s.candidate in
+    let more = after_more circles s.candidate in
+    always_cond (ltb capacity (length now))
+    (λ _. always_done more)
+    (λ _. on_more s.next now _ more (λ further. record { on = λ image. omega (arith, more, (row_more shape capacity n row further now).on image) }))
 
 pub record Sweeping (words marks₀ records₀ : List ℕ) (shape : Shape) (capacity : ℕ) (marks records : List ℕ) (found row : ℕ) : Type 0 where
   pub fuel : ℕ
@@ -125,6 +126,3 @@ module _ {words marks₀ records₀ marks records : List ℕ} {shape : Shape} {c
 abbrev pub invariant-loop-row : goal.invariant-loop-row
 invariant-loop-row l =
     Sweeping l.words l.initial.marks l.initial.records l.shape l.capacity l.marks l.records l.found l.row
-
-abbrev pub decreases-loop-row : goal.decreases-loop-row
-decreases-loop-row l = l.shape.height - l.row

@@ -1,14 +1,7 @@
 -- `detector_candidates::sweep_row` meets its contract. The invariant is `Sweeping`: with some fuel, what is left of the row ends as the whole does, and only
 -- the candidates so far were written. That a turn moves to the right, and so has fuel, is a fact of the definition of a search. The measure is the columns
 -- left.
-use Prim.Native.Nat.{ℕ, zero, suc, ◌-◌, ◌*◌, ◌≤◌, ◌<◌}
-use mathlib.Core.Path.{◌≡◌, ◌∙◌}
-use mathlib.Core.Bool.{Bool, true, false, cond, ◌||◌}
-use mathlib.Core.List.{List}
-use native.Mathlib.Omega.{arith}
-use borrow.Author.Tests.{lt-ltb, le-ltb}
-use lib.Dec.{ltb}
-use lib.ListN.{length, drop}
+use Rattle.std.proofs.Common.{ℕ, zero, suc, ◌-◌, ◌*◌, ◌≤◌, ◌<◌, ◌≡◌, ◌∙◌, cond, List, arith, lt-ltb, le-ltb, ltb, length, drop, Option, Some, None, IfSome, sym, refl}
 use Rattle.reads.specs.Reads.{Reads, done}
 use Rattle.reads.specs.Bits.{bit_at}
 use Rattle.reads.specs.RunsClauses.{Ran, Resumes}
@@ -20,107 +13,116 @@ use Rattle.bit_matrix.specs.ShapeClauses.{Image}
 use Rattle.bit_matrix.specs.ShapeLaws.{image_kept}
 use Rattle.detector_candidate.specs.CandidateClauses.{Searchable, search_from}
 use Rattle.detector_candidates.specs.CandidatesClauses.{row_from, Room, Stored, Listed}
-use Rattle.detector_candidates.specs.Candidates.{after, row_by}
-use Rattle.detector_candidate.specs.CandidateLaws.{FitSearch, search_fit, searchable_next}
+use Rattle.detector_candidates.specs.Candidates.{after, row_on, row_by}
+use Rattle.detector_candidate.specs.CandidateLaws.{Further, FitSearch, search_fit, searchable_next}
 use Rattle.detector_candidate.specs.declared.Searched.{Searched}
-use Rattle.detector_candidates.proofs.Storing.{after_more, stored_rows, stored_rest, stored_since}
+use Rattle.detector_candidates.proofs.Storing.{after_more, stored_all, stored_rows, stored_rest, stored_since}
 use Rattle.detector_candidates.proofs.sweep_row.Given as goal
 
-pub record Sweeping (words marks₀ records₀ : List ℕ) (shape : Shape) (capacity row found : ℕ) (marks records : List ℕ) (count column : ℕ) : Type 0 where
+-- where the row goes on, with fuel for the columns left
+pub record Going (shape : Shape) (row fuel column : ℕ) : Type 0 where
+  pub at : Searchable shape row column
+  pub fueled : shape.width - column ≤ fuel
+
+pub record Sweeping (words marks₀ records₀ : List ℕ) (shape : Shape) (capacity row found : ℕ) (marks records : List ℕ) (count : ℕ)
+    (next : Option ℕ) : Type 0 where
   pub fuel : ℕ
   pub image : Image shape words marks
-  pub at : Searchable shape row column
   pub room : Room capacity records count
   pub same : length records ≡ length records₀
-  pub fueled : shape.width - column ≤ fuel
   pub rest : drop (40 * count) records ≡ drop (40 * count) records₀
+  pub going : IfSome next (Going shape row fuel)
   pub resumes : Resumes words
-      (row_from shape capacity fuel row column (rows count records)) marks
+      (row_on next (rows count records) (λ column. row_from shape capacity fuel row column (rows count records))) marks
       (row_from shape capacity shape.width row 6 (rows found records₀)) marks₀
 
+-- the columns left, and the search at hand
+abbrev pub columns_left : ℕ → Option ℕ → ℕ
+columns_left width None = 0
+columns_left width (Some column) = suc (width - column)
+
+-- the row has ended
+pub at_end : {words marks₀ records₀ marks records : List ℕ} {shape : Shape} {capacity row found count : ℕ} {next : Option ℕ}
+    → Sweeping words marks₀ records₀ shape capacity row found marks records count next → next ≡ None
+    → Listed (row_from shape capacity shape.width row 6 (rows found records₀)) capacity words marks₀ records₀ count marks records
+at_end {records = records} {count = count} so_far none =
+    let end = resumes_end (ran_done _) (rw none at so_far.resumes) in
+    record {
+      stored = rw (← end.result)
+          (stored_all (rows count records) (sym (length_rows count records)) so_far.room.few (record { records = refl; rest = so_far.rest }));
+      marked = end.marked;
+    }
+
 module _ {words marks₀ records₀ marks records : List ℕ} {shape : Shape} {capacity row found count column : ℕ}
-    (so_far : Sweeping words marks₀ records₀ shape capacity row found marks records count column) where
+    (so_far : Sweeping words marks₀ records₀ shape capacity row found marks records count (Some column)) where
   abbrev pub whole : Reads (List Record)
   whole = row_from shape capacity shape.width row 6 (rows found records₀)
 
-  abbrev pub left : Searched → ℕ → Reads (List Record)
-  left s n =
-      let now = after (rows count records) s in
-      cond (s.ended || ltb capacity (length now)) (done now) (row_from shape capacity n row s.column now)
-
-  -- a search never starts at the limit
-  pub never : shape.width - 6 ≤ column → Listed whole capacity words marks₀ records₀ count marks records
-  never h = absurd (omega (arith, so_far.at.right))
-
   -- a search, and its candidate appended
   module _ {s : Searched} {marks' : List ℕ} (ran : Ran (search_from shape row column) words marks s marks')
-      {count' : ℕ} {records' : List ℕ} (stored : Stored capacity records (after (rows count records) s) count' records') where
+      {count' : ℕ} {records' : List ℕ} (stored : Stored capacity records (after (rows count records) s.candidate) count' records') where
+    abbrev pub now : List Record
+    now = after (rows count records) s.candidate
+
     pub fits : FitSearch shape (bit_at words) column s
-    fits = on_ran (search_fit shape (bit_at words) row column so_far.image.limits so_far.at) ran
+    fits = on_ran (search_fit shape (bit_at words) row column so_far.image.limits so_far.going.at) ran
 
     pub more : count ≤ count'
-    more = omega (arith, stored.counted, after_more (rows count records) s, length_rows count records)
-
-    -- where the row ends
-    pub listed : Ran whole words marks₀ (after (rows count records) s) marks' → Listed whole capacity words marks₀ records₀ count' marks' records'
-    listed end = record {
-      stored = rw (← end.result) (stored_since so_far.rest so_far.room.few more stored);
-      marked = end.marked;
-    }
+    more = omega (arith, stored.counted, after_more (rows count records) s.candidate, length_rows count records)
 
     -- a turn has fuel, since it starts left of the limit
     pub record Turned : Type 0 where
       pub fuel : ℕ
       pub fueled : shape.width - column ≤ suc fuel
-      pub resumes : Resumes words (left s fuel) marks' whole marks₀
+      pub resumes : Resumes words
+          (cond (ltb capacity (length now)) (done now) (row_on s.next now (λ further. row_from shape capacity fuel row further now))) marks' whole marks₀
 
     pub turned : Turned
     unfolding row_by
-    turned = go so_far.fuel so_far.fueled so_far.resumes
+    turned = go so_far.fuel so_far.going.fueled so_far.resumes
       where
         go : (n : ℕ) → shape.width - column ≤ n
             → Resumes words (row_from shape capacity n row column (rows count records)) marks whole marks₀ → Turned
-        go zero enough resumes = absurd (omega (arith, so_far.at.right))
+        go zero enough resumes = absurd (omega (arith, so_far.going.at.right))
         go (suc n) enough resumes = record { fuel = n; fueled = enough; resumes = resumes_step _ ran resumes }
 
-    -- the test that ends the row
-    abbrev pub over : Bool
-    over = s.ended || ltb capacity (length (after (rows count records) s))
+    pub at_full : capacity < count' → Listed whole capacity words marks₀ records₀ count' marks' records'
+    at_full h =
+        let most : capacity < length now = omega (arith, stored.counted) in
+        let end = resumes_end (ran_done _) (resumes_then _ _ (lt-ltb capacity _ most) turned.resumes) in
+        record { stored = rw (← end.result) (stored_since so_far.rest so_far.room.few more stored); marked = end.marked }
 
-    pub ended : over ≡ true → Listed whole capacity words marks₀ records₀ count' marks' records'
-    ended e = listed (resumes_end (ran_done _) (resumes_then _ _ e turned.resumes))
+    pub fewer : columns_left shape.width s.next < columns_left shape.width (Some column)
+    fewer = go s.next fits.onward
+      where
+        go : (next : Option ℕ) → IfSome next (Further shape.width column) → columns_left shape.width next < columns_left shape.width (Some column)
+        go None _ = omega arith
+        go (Some next) onward = omega (arith, onward.further, onward.inside)
 
-    pub at_end : s.ended ≡ true → Listed whole capacity words marks₀ records₀ count' marks' records'
-    at_end e = ended (rw e)
+    goes_on : (next : Option ℕ) → IfSome next (Further shape.width column) → IfSome next (Going shape row turned.fuel)
+    goes_on None _ = tt
+    goes_on (Some next) onward = record {
+      at = searchable_next so_far.going.at onward;
+      fueled = omega (arith, turned.fueled, onward.further);
+    }
 
-    pub at_full : s.ended ≡ false → capacity < count' → Listed whole capacity words marks₀ records₀ count' marks' records'
-    at_full e h =
-        let most : capacity < length (after (rows count records) s) = omega (arith, stored.counted) in
-        ended (rw (e, lt-ltb capacity _ most))
-
-    pub fewer : s.ended ≡ false → shape.width - s.column < shape.width - column
-    fewer e = omega (arith, fits.onward.further e, fits.onward.inside e)
-
-    pub onward : s.ended ≡ false → count' ≤ capacity → length marks' ≡ length marks → length records' ≡ length records
-        → Sweeping words marks₀ records₀ shape capacity row found marks' records' count' s.column
-    onward e few long same =
-        let most : length (after (rows count records) s) ≤ capacity = omega (arith, stored.counted) in
-        let goes : over ≡ false = rw (e, le-ltb capacity _ most) in
-        let now : after (rows count records) s ≡ rows count' records' = stored_rows stored few in
+    pub onward : count' ≤ capacity → length marks' ≡ length marks → length records' ≡ length records
+        → Sweeping words marks₀ records₀ shape capacity row found marks' records' count' s.next
+    onward few long same =
+        let most : length now ≤ capacity = omega (arith, stored.counted) in
         record {
           fuel = turned.fuel;
           image = image_kept so_far.image long;
-          at = searchable_next so_far.at fits.onward e;
           room = record { few = few; most = so_far.room.most; held = rw same so_far.room.held };
           same = same ∙ so_far.same;
-          fueled = omega (arith, turned.fueled, fits.onward.further e);
           rest = stored_rest (stored_since so_far.rest so_far.room.few more stored) few;
-          resumes = rw (← now) (resumes_else _ _ goes turned.resumes);
+          going = goes_on s.next fits.onward;
+          resumes = rw (← stored_rows stored few) (resumes_else _ _ (le-ltb capacity _ most) turned.resumes);
         }
 
-abbrev pub invariant-loop-column : goal.invariant-loop-column
-invariant-loop-column l =
-    Sweeping l.words l.initial.marks l.initial.records l.shape l.capacity l.row l.found l.marks l.records l.count l.column
+abbrev pub invariant-loop-next : goal.invariant-loop-next
+invariant-loop-next l =
+    Sweeping l.words l.initial.marks l.initial.records l.shape l.capacity l.row l.found l.marks l.records l.count l.next
 
-abbrev pub decreases-loop-column : goal.decreases-loop-column
-decreases-loop-column l = l.shape.width - l.column
+abbrev pub decreases-loop-next : goal.decreases-loop-next
+decreases-loop-next l = columns_left l.shape.width l.next
