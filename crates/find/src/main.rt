@@ -1,14 +1,15 @@
 // Reads a crop on standard input, searches it with room for 400 records, and prints the line of the report and one for each kept record.
 #![tactic(auto)]
 
-ghost use Rattle.std.specs.Prelude.{◌≡◌, List, ℕ, OnOk, IfSome, ◌≤◌, length};
+ghost use Rattle.std.specs.Prelude.{◌≡◌, List, ℕ, IfOk, OnOk, IfSome, ◌≤◌, length};
 ghost use Rattle.std.specs.Io.KnownBytes.{Appends};
 ghost use Rattle.bit_matrix.specs.Shape.{row_words};
 ghost use Rattle.crop.specs.CropClauses.{Checks};
 ghost use Rattle.text.specs.Text.{Puts};
 ghost use Rattle.find.specs.Find.{lent_words, printed};
 
-use crop::Checked;
+use bit_matrix::Shape;
+use crop_sizes::Refusal;
 use std::io;
 use std::io::{ErrorKind, Read, Write};
 use std::process::ExitCode;
@@ -24,11 +25,14 @@ enum Failure {
 }
 
 // The words to lend for a file that was checked: those of its image, or none where the file is refused.
-fn lent_words(checked: Checked) -> usize
-    requires { checked.shape.row_words ≡ row_words checked.shape.width }
+fn lent_words(checked: Result<Shape, Refusal>) -> usize
+    requires { IfOk checked (λ shape. shape.row_words ≡ row_words shape.width) }
     ensures { (file : List ℕ) → Checks file checked → (result ≡ lent_words file) × (result ≤ 8000) }
 {
-    crop_sizes::image_words(checked.shape)
+    match checked {
+        Ok(shape) => crop_sizes::image_words(shape),
+        Err(_) => 0,
+    }
 }
 
 // All that is printed of a crop file: it is checked and searched, and its lines are put into a buffer.
@@ -72,19 +76,14 @@ fn find<R: Read, W: Write>(reader: &mut R, writer: &mut W) -> Result<(), Failure
         (λ input. Appends (W.contents writer.old) (W.contents writer.new) (printed input))) }
 {
     let mut input = [0u8; 65536];
-    let n = match input::read_full(reader, &mut input) {
-        Ok(n) => n,
-        Err(_) => return Err(Failure::Input),
-    };
+    let n = input::read_full(reader, &mut input).map_err(|_| Failure::Input)?;
     if n < input.len() && !has_ended(reader) {
         return Err(Failure::Input);
     }
     let mut text = [0u8; 80080];
     let end = put_lines(&input[..n], &mut text);
-    match writer.write_all(&text[..end]) {
-        Ok(()) => Ok(()),
-        Err(e) => Err(Failure::Output(e)),
-    }
+    writer.write_all(&text[..end]).map_err(Failure::Output)?;
+    Ok(())
 }
 
 // What could not be done, on standard error. Where that cannot be written either, nothing is left to tell it on.
