@@ -12,7 +12,7 @@ fn mask_of(place: usize, end: usize) -> u64
     requires { (place < 64) × (place ≤ end) × (0 < end) × (end ≤ 64) }
     ensures { result ≡ mask (end - place) place }
 {
-    u64::MAX >> (64 - end) >> place << place
+    (u64::MAX >> (64 - end)) - ((1 << place) - 1)
 }
 
 // The columns from `from` up to, not including, `to` are marked. Past the last word there is nothing to mark.
@@ -43,9 +43,9 @@ pub fn first_black(words: &[u64], first: usize, from: usize, to: usize) -> usize
 {
     for word in from / 64..to.div_ceil(64) {
         let column = from.max(word * 64);
-        let white = (word_at(words, first + word) >> (column % 64)).trailing_zeros() as usize;
-        if white < 64 - column % 64 {
-            return (column + white).min(to);
+        let black = word_at(words, first + word) >> (column % 64);
+        if black != 0 {
+            return (column + black.trailing_zeros() as usize).min(to);
         }
     }
     to

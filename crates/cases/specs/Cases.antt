@@ -1,6 +1,6 @@
 -- Near pairs, inputs that the rules tell apart by little, as one table: a field for each case says what a step's definition gives. `cases` proves the
 -- table, by computation. Assumes nothing.
-use Rattle.std.specs.Prelude.{ℕ, ◌+◌, ◌*◌, ◌-◌, ◌/◌, ◌%◌, ◌^◌, Bool, true, false, ◌≡◌, refl, eqb, set, replicate, drop, Option, Some}
+use Rattle.std.specs.Prelude.{ℕ, ◌+◌, ◌*◌, ◌-◌, ◌/◌, ◌%◌, ◌^◌, Bool, true, false, ◌≡◌, refl, eqb, set, replicate, drop, Option, Some, None}
 use mathlib.Core.List.{List, [], ◌∷◌, ◌++◌, map, flat_map}
 use Rattle.std.specs.Int.Count.{ones}
 use Rattle.std.specs.Float.Ieee.{size, round, of_bits, of_int, add, sub, mul, div, lt, to_unsigned, to_signed}
@@ -18,7 +18,7 @@ use Rattle.rxing_result_point.specs.Points.{real}
 use Rattle.detector_widths.specs.Widths.{even_runs_pass, odd_runs_pass, valid_widths}
 use Rattle.detector_widths.specs.Buckets.{bump}
 use Rattle.reads.specs.Total.{total}
-use Rattle.detector_window.specs.Window.{metadata, none}
+use Rattle.detector_window.specs.Window.{metadata}
 use Rattle.detector_rows.specs.Rows.{skip_white, next_bullseye_by}
 use Rattle.detector_first_window.specs.FirstWindow.{window_by}
 use Rattle.detector_rows.specs.RowsClauses.{next_bullseye}
@@ -49,7 +49,7 @@ abbrev pub equal : ℕ → List ℕ
 equal run = replicate 11 run
 
 -- the first window of row 6, of 33 columns and rows of one word each, where the row has six black pixels, one white one between two, the first at a column
-abbrev pub window_of : ℕ → Bullseye
+abbrev pub window_of : ℕ → Option Bullseye
 window_of first = value_of (next_bullseye (shape_of 33 33) 6 6) (replicate 6 0 ++ 0x555 * 2 ^ first ∷ replicate 26 0)
 
 -- the area at a pixel, of 33 columns and rows of one word each; the list gives the first rows, and the others are white
@@ -118,8 +118,8 @@ pub record Cases : Type 0 where
   pub even_run_1_among_2s : map (λ k. valid_widths (set (equal 2) k 1)) (0 ∷ 2 ∷ 4 ∷ 6 ∷ 8 ∷ 10 ∷ []) ≡ replicate 6 false
   pub odd_runs_3_2_2_2 : map (λ k. valid_widths (set (equal 2) k 3)) (1 ∷ 3 ∷ 7 ∷ 9 ∷ []) ≡ replicate 4 false
   -- width 33, runs of one pixel
-  pub runs_from_15 : window_of 15 ≡ record { found = true; center = 20; radius = 6; buckets = equal 1 }
-  pub runs_from_16 : window_of 16 ≡ none
+  pub runs_from_15 : window_of 15 ≡ Some (record { center = 20; radius = 6; buckets = equal 1 })
+  pub runs_from_16 : window_of 16 ≡ None
   -- areas, in every arrangement
   pub two_of_four : map area_of_four (with_ones 2 (2 ^ 4)) ≡ replicate 6 (Some true)
   pub one_of_four : map area_of_four (with_ones 1 (2 ^ 4)) ≡ replicate 4 (Some false)

@@ -1,11 +1,11 @@
 -- `bit_runs::first_black` meets its contract.
 use Rattle.std.proofs.Common.{ℕ, ◌+◌, ◌-◌, ◌*◌, ◌/◌, ◌%◌, ◌^◌, ◌≤◌, ◌<◌, min, max, true, false, not, ◌≡◌, refl, sym, ap, ◌∙◌, List, get_or, eqb, arith}
 use Rattle.std.proofs.Math.Decide.{dec_lt}
-use Rattle.std.specs.Int.Count.{count_trailing_zeros}
+use Rattle.std.specs.Int.Count.{count_trailing_zeros, trailing_of_zero}
 use Rattle.reads.specs.Bits.{test_bit}
 use Rattle.bit_runs.specs.BitRuns.{row_bit, FirstBlack}
 use Rattle.bit_runs.specs.ChangesLaws.{trailing_clear, trailing_set}
-use Rattle.bit_runs.proofs.WordLaws.{row_bit_lem}
+use Rattle.bit_runs.proofs.WordLaws.{row_bit_lem, word_down, zeros_lt}
 use Rattle.bit_runs.proofs.first_black.Invariants.{Passed}
 use Rattle.bit_runs.proofs.first_black.Goals as goal
 
@@ -51,10 +51,13 @@ module _ {words : List ℕ} {first from word i w n : ℕ} (passed : Passed words
         ap (row_bit words first) end ∙ black_at_lem (omega arith);
   }
 
-pub returns-then-white-column : goal.returns-then-white-column
-returns-then-white-column c =
-    found c.loop-word.invariant c.loop-word.auto.word c.max-column.ensures c.word_at.ensures refl (omega arith) c.if-white-column.true c.min.ensures
+pub returns-then-black-ne0 : goal.returns-then-black-ne0
+returns-then-black-ne0 c =
+    let low : c.word_at.result / 2 ^ (c.max-column.result % 64) < 2 ^ (64 - c.max-column.result % 64) = word_down _ _ (omega arith) c.word_at.type_inv in
+    found c.loop-word.invariant c.loop-word.auto.word c.max-column.ensures c.word_at.ensures refl (omega arith)
+    (zeros_lt _ _ (omega (arith, c.if-black-ne0.true)) low (omega arith)) c.min.ensures
 
 pub loop-word-preserved : goal.loop-word-preserved
 loop-word-preserved c =
-    onward c.loop-word.invariant c.loop-word.auto.word c.max-column.ensures c.word_at.ensures refl c.if-white-column.false
+    onward c.loop-word.invariant c.loop-word.auto.word c.max-column.ensures c.word_at.ensures refl
+    (rw (c.if-black-ne0.false, trailing_of_zero) (omega arith))
