@@ -3,6 +3,8 @@ use Rattle.std.specs.Prelude.{ℕ, zero, suc, ◌+◌, ◌/◌, ◌^◌, ◌≤�
 use Rattle.std.proofs.Common.{add-one, arith, append-nil, append_assoc, sym, ap, subst, ◌∙◌, length-append, drop-drop, length-take-le}
 use Rattle.io.specs.Digits.{last_digits}
 use Rattle.text.specs.Text.{places, decimal_of, hex_of, Puts}
+use Rattle.text.specs.TextClauses.{HasRoom, Wrote}
+use Rattle.text.specs.declared.Text.{Text}
 
 -- ---- text put into a buffer
 
@@ -43,6 +45,24 @@ puts_as {at = at} {next} {before} {after} e puts = subst (λ (l : List ℕ). Put
 pub puts_named : (name text : List ℕ) {s : List ℕ} {at m next : ℕ} {before mid after : List ℕ} → Puts s at before m mid → Puts (name ++ text) m mid next after
     → Puts (s ++ name ++ text) at before next after
 puts_named name text {s} first second = puts_as (sym (append_assoc s name text)) (puts_then first second)
+
+-- ---- text behind text
+
+pub wrote_then : {s t : List ℕ} {a b c : Text} → Wrote s a b → Wrote t b c → Wrote (s ++ t) a c
+wrote_then first second = record { puts = puts_then first.puts second.puts; same = second.same ∙ first.same }
+
+pub wrote_none : {t : Text} → HasRoom 0 t → Wrote [] t t
+wrote_none room = record { puts = puts_none (omega (arith, room)); same = refl }
+
+pub wrote_as : {s t : List ℕ} {a b : Text} → s ≡ t → Wrote s a b → Wrote t a b
+wrote_as {a = a} {b} e wrote = subst (λ (l : List ℕ). Wrote l a b) e wrote
+
+-- what was room for the text and more is room for more
+pub room_then : {s : List ℕ} {a b : Text} → Wrote s a b → (m n : ℕ) → HasRoom m a → length s + n ≤ m → HasRoom n b
+room_then wrote m n room fits = omega (arith, wrote.puts.end, wrote.puts.size)
+
+pub wrote_named : (name text : List ℕ) {s : List ℕ} {a b c : Text} → Wrote s a b → Wrote (name ++ text) b c → Wrote (s ++ name ++ text) a c
+wrote_named name text {s} first second = wrote_as (sym (append_assoc s name text)) (wrote_then first second)
 
 -- ---- how long a number is
 

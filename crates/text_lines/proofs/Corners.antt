@@ -1,54 +1,56 @@
 -- The corners of a record, one word after the other: k are put. Assumes nothing.
-use Prim.Native.Nat.{ℕ, ◌+◌, ◌*◌, ◌≤◌, ◌<◌}
-use native.Mathlib.Numerals.{add-one}
-use native.Mathlib.Omega.{arith}
-use mathlib.Core.List.{List, [], ◌∷◌, ◌++◌, map, map-append, append-nil}
-use mathlib.Core.Path.{◌≡◌, refl, sym, ap, ◌∙◌}
-use lib.ListN.{length, get_or, take, drop, length-drop}
-use lib.Seq.{get_or-drop, take-suc}
-use Rattle.text.specs.Text.{hex_of, Puts}
-use Rattle.text.specs.TextLaws.{puts_then, puts_none, puts_as}
+use Rattle.std.proofs.Common.{ℕ, ◌+◌, ◌≤◌, ◌<◌, add-one, arith, List, [], ◌∷◌, ◌++◌, map, append-nil, ◌≡◌, sym, ap, ◌∙◌, length, get_or, take, drop, length-take, length-drop, take-suc, take_all}
+use mathlib.Core.List.{map-append}
+use Rattle.text.specs.Text.{hex_of}
+use Rattle.text.specs.TextClauses.{HasRoom, Wrote, Grown}
+use Rattle.text.specs.declared.Text.{Text}
+use Rattle.text.specs.TextLaws.{wrote_then, wrote_none, wrote_as, room_then}
 use Rattle.text_lines.specs.Lines.{following, corner_fields}
+use Rattle.text_lines.specs.LinesLaws.{length_hexes}
 use Rattle.text_lines.proofs.Parted.{following_append}
 
-pub record Corners (fields : List ℕ) (at : ℕ) (before : List ℕ) (next k : ℕ) (now : List ℕ) : Type 0 where
+abbrev corners : List ℕ → List ℕ
+corners fields = take 8 (drop 31 fields)
+
+pub corners_long : (fields : List ℕ) → length fields ≡ 40 → length (corners fields) ≡ 8
+corners_long fields whole = omega (arith, length-take 8 (drop 31 fields), length-drop 31 fields)
+
+pub record Corners (fields : List ℕ) (before : Text) (k : ℕ) (now : Text) : Type 0 where
   pub few : k ≤ 8
-  pub place : next ≡ at + 9 * k
-  pub size : length now ≡ length before
-  pub puts : Puts (following (map hex_of (take k (drop 31 fields)))) at before next now
+  pub wrote : Wrote (following (map hex_of (take k (corners fields)))) before now
 
-module _ {fields : List ℕ} {at : ℕ} {before : List ℕ} where
-  pub corners_begin : at ≤ length before → Corners fields at before at 0 before
-  corners_begin inside = record { few = omega arith; place = omega arith; size = refl; puts = puts_none inside }
+module _ {fields : List ℕ} {before : Text} where
+  pub corners_begin : HasRoom 0 before → Corners fields before 0 before
+  corners_begin room = record { few = omega arith; wrote = wrote_none room }
 
-  pub corners_more : {next more k : ℕ} {now after : List ℕ} → length fields ≡ 40 → k < 8 → more ≡ next + 9
-      → Puts (32 ∷ hex_of (get_or fields (31 + k) 0)) next now more after → Corners fields at before next k now → Corners fields at before more (k + 1) after
-  corners_more {next} {more} {k} {now} {after} whole few e puts so_far = record {
+  pub corners_room : {k : ℕ} {now : Text} → k < 8 → HasRoom 72 before → Corners fields before k now → HasRoom 9 now
+  corners_room {k} {now} less room so_far =
+      room_then so_far.wrote 72 9 room
+      (rw length_hexes (omega (arith, length-take k (corners fields))))
+
+  pub corners_more : {k : ℕ} {now after : Text} → length (corners fields) ≡ 8 → k < 8
+      → Wrote (32 ∷ hex_of (get_or (corners fields) k 0)) now after → Corners fields before k now → Corners fields before (k + 1) after
+  corners_more {k} {now} {after} whole less wrote so_far = record {
     few = omega arith;
-    place = omega (arith, so_far.place);
-    size = puts.size ∙ so_far.size;
-    puts = puts_as text (puts_then so_far.puts puts);
+    wrote = wrote_as text (wrote_then so_far.wrote wrote);
   }
     where
-      corners : List ℕ
-      corners = drop 31 fields
-
       word : ℕ
-      word = get_or fields (31 + k) 0
+      word = get_or (corners fields) k 0
 
-      one_more : take (k + 1) corners ≡ take k corners ++ (word ∷ [])
-      one_more =
-          ap (λ (n : ℕ). take n corners) (add-one k) ∙ take-suc corners k 0 (omega (arith, length-drop 31 fields))
-          ∙ ap (λ (w : ℕ). take k corners ++ (w ∷ [])) (get_or-drop 31 fields k 0)
+      one_more : take (k + 1) (corners fields) ≡ take k (corners fields) ++ (word ∷ [])
+      one_more = ap (λ (n : ℕ). take n (corners fields)) (add-one k) ∙ take-suc (corners fields) k 0 (omega (arith, whole))
 
-      text : following (map hex_of (take k corners)) ++ (32 ∷ hex_of word) ≡ following (map hex_of (take (k + 1) corners))
+      text : following (map hex_of (take k (corners fields))) ++ (32 ∷ hex_of word) ≡ following (map hex_of (take (k + 1) (corners fields)))
       text =
-          ap (λ (l : List ℕ). following (map hex_of (take k corners)) ++ (32 ∷ l)) (sym (append-nil (hex_of word)))
-          ∙ sym (following_append (map hex_of (take k corners)) (hex_of word ∷ []))
-          ∙ ap following (sym (map-append hex_of (take k corners) (word ∷ []))) ∙ ap (λ (l : List ℕ). following (map hex_of l)) (sym one_more)
+          ap (λ (l : List ℕ). following (map hex_of (take k (corners fields))) ++ (32 ∷ l)) (sym (append-nil (hex_of word)))
+          ∙ sym (following_append (map hex_of (take k (corners fields))) (hex_of word ∷ []))
+          ∙ ap following (sym (map-append hex_of (take k (corners fields)) (word ∷ []))) ∙ ap (λ (l : List ℕ). following (map hex_of l)) (sym one_more)
 
-  pub corners_end : {next k : ℕ} {now : List ℕ} → 8 ≤ k → Corners fields at before next k now
-      → Puts (following (map hex_of (corner_fields fields))) at before next now
-  corners_end {k = k} all done =
-      let whole : k ≡ 8 = omega (arith, done.few) in
-      puts_as (ap (λ (n : ℕ). following (map hex_of (take n (drop 31 fields)))) whole) done.puts
+  pub corners_end : {k : ℕ} {now : Text} → length (corners fields) ≤ k → Corners fields before k now
+      → Wrote (following (map hex_of (corner_fields fields))) before now
+  corners_end {k = k} all done = wrote_as (ap (λ (l : List ℕ). following (map hex_of l)) (take_all k (corners fields) all)) done.wrote
+
+pub corners_grown : (fields : List ℕ) {before now : Text} → Wrote (following (map hex_of (corner_fields fields))) before now → Grown 72 before now
+corners_grown fields wrote =
+    (omega (arith, wrote.puts.end, length_hexes (corner_fields fields), length-take 8 (drop 31 fields)), wrote.puts.size)

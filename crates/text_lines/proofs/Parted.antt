@@ -1,10 +1,9 @@
 -- Texts parted by spaces, and the line of a record by its parts. Assumes nothing.
-use Prim.Native.Nat.{ℕ}
-use mathlib.Core.List.{List, [], ◌∷◌, ◌++◌, map, append-nil, append_assoc}
-use mathlib.Core.Path.{◌≡◌, refl, sym, ap, ◌∙◌}
-use lib.ListN.{get_or}
-use Rattle.text.specs.Text.{ascii, decimal_of, hex_of, Puts}
-use Rattle.text.specs.TextLaws.{puts_then, puts_as}
+use Rattle.std.proofs.Common.{ℕ, List, [], ◌∷◌, ◌++◌, map, append-nil, append_assoc, ◌≡◌, refl, sym, ap, ◌∙◌, get_or}
+use Rattle.text.specs.Text.{ascii, decimal_of, hex_of}
+use Rattle.text.specs.TextClauses.{Wrote}
+use Rattle.text.specs.declared.Text.{Text}
+use Rattle.text.specs.TextLaws.{wrote_then, wrote_as}
 use Rattle.text_lines.specs.Lines.{following, parted, degrees_of, corner_fields, hex_fields, record_line}
 
 pub following_append : (ts us : List (List ℕ)) → following (ts ++ us) ≡ following ts ++ following us
@@ -13,9 +12,8 @@ following_append (t ∷ ts) us =
     ap (λ (l : List ℕ). 32 ∷ (t ++ l)) (following_append ts us) ∙ ap (λ (l : List ℕ). 32 ∷ l) (sym (append_assoc t (following ts) (following us)))
 
 -- the last text, after a space
-pub puts_last : {t : List ℕ} {at m next : ℕ} {before mid after : List ℕ} → Puts t at before m mid → (u : List ℕ) → Puts (32 ∷ u) m mid next after
-    → Puts (t ++ following (u ∷ [])) at before next after
-puts_last {t} first u second = puts_as (ap (λ (l : List ℕ). t ++ (32 ∷ l)) (sym (append-nil u))) (puts_then first second)
+pub wrote_last : {t : List ℕ} {a b c : Text} → Wrote t a b → (u : List ℕ) → Wrote (32 ∷ u) b c → Wrote (t ++ following (u ∷ [])) a c
+wrote_last {t} first u second = wrote_as (ap (λ (l : List ℕ). t ++ (32 ∷ l)) (sym (append-nil u))) (wrote_then first second)
 
 parted_three : (t : List ℕ) (ts us vs : List (List ℕ)) → parted (t ∷ ts) ++ following us ++ following vs ≡ parted (t ∷ (ts ++ us ++ vs))
 parted_three t ts us vs =
@@ -27,11 +25,11 @@ module _ (fields : List ℕ) where
   abbrev word : ℕ → ℕ
   word i = get_or fields i 0
 
-  pub puts_line : {at m n o p next : ℕ} {before a b c d after : List ℕ} → Puts (parted (map decimal_of (word 0 ∷ word 1 ∷ word 2 ∷ []))) at before m a
-      → Puts (following (map decimal_of (word 26 ∷ word 27 ∷ degrees_of (word 28) ∷ word 39 ∷ []))) m a n b → Puts (ascii " " ++ hex_of (word 25)) n b o c
-      → Puts (following (map hex_of (corner_fields fields))) o c p d → Puts (ascii "\n") p d next after → Puts (record_line fields) at before next after
+  pub wrote_line : {a b c d e f : Text} → Wrote (parted (map decimal_of (word 0 ∷ word 1 ∷ word 2 ∷ []))) a b
+      → Wrote (following (map decimal_of (word 26 ∷ word 27 ∷ degrees_of (word 28) ∷ word 39 ∷ []))) b c → Wrote (ascii " " ++ hex_of (word 25)) c d
+      → Wrote (following (map hex_of (corner_fields fields))) d e → Wrote (ascii "\n") e f → Wrote (record_line fields) a f
   unfolding record_line
-  puts_line circle turn variance corners end =
+  wrote_line circle turn variance corners end =
       let numbers : List (List ℕ) = map decimal_of (word 26 ∷ word 27 ∷ degrees_of (word 28) ∷ word 39 ∷ []) in
       let all = parted_three (decimal_of (word 0)) (decimal_of (word 1) ∷ decimal_of (word 2) ∷ []) numbers (map hex_of (hex_fields fields)) in
-      puts_then (puts_as all (puts_then (puts_then circle turn) (puts_then variance corners))) end
+      wrote_then (wrote_as all (wrote_then (wrote_then circle turn) (wrote_then variance corners))) end

@@ -5,7 +5,7 @@ use Rattle.text.specs.Text.{hex_of, Puts}
 use Rattle.text.specs.TextLaws.{decimal_short, length_hex}
 use Rattle.text_lines.specs.Lines.{following, degrees_of, corner_fields, report_line, record_line}
 
-report_short : (answer found kept marked : ℕ) → length (report_line answer found kept marked) ≤ 80
+pub report_short : (answer found kept marked : ℕ) → length (report_line answer found kept marked) ≤ 80
 unfolding report_line
 report_short answer found kept marked =
     simp length-append (omega (arith, decimal_short answer, decimal_short found, decimal_short kept, decimal_short marked))
@@ -15,7 +15,7 @@ pub report_ends : (answer found kept marked : ℕ) {at next : ℕ} {before after
 report_ends answer found kept marked puts = omega (arith, puts.end, report_short answer found kept marked)
 
 -- eight digits and a space for each
-length_hexes : (ns : List ℕ) → length (following (map hex_of ns)) ≡ 9 * length ns
+pub length_hexes : (ns : List ℕ) → length (following (map hex_of ns)) ≡ 9 * length ns
 length_hexes [] = refl
 length_hexes (n ∷ ns) = omega (arith, length-append (hex_of n) (following (map hex_of ns)), length_hex n, length_hexes ns)
 

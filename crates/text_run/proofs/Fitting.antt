@@ -1,11 +1,5 @@
 -- Where there is no room for a run's text it is empty, and else it is the run's. Assumes nothing.
-use Prim.Native.Nat.{ℕ, ◌+◌, ◌*◌, ◌≤◌, ◌<◌}
-use mathlib.Core.Bool.{Bool, cond, ◌||◌}
-use mathlib.Core.List.{List, []}
-use mathlib.Core.Path.{◌≡◌, ap, ◌∙◌}
-use borrow.Author.Tests.{lt-ltb, le-ltb}
-use lib.Dec.{ltb}
-use lib.ListN.{length}
+use Rattle.std.proofs.Common.{ℕ, ◌+◌, ◌*◌, ◌≤◌, ◌<◌, Bool, cond, ◌||◌, List, [], ◌≡◌, ap, ◌∙◌, lt-ltb, le-ltb, ltb, length}
 use Rattle.text_run.specs.RunText.{run_text, fitting_text}
 
 module _ (room answer found kept marked : ℕ) (records : List ℕ) where

@@ -1,59 +1,61 @@
 -- The lines of the records, one after the other: i are put. Assumes nothing.
-use Prim.Native.Nat.{ℕ, suc, ◌+◌, ◌*◌, ◌≤◌, ◌<◌}
-use native.Mathlib.Numerals.{add-one}
-use native.Mathlib.Omega.{arith}
-use mathlib.Core.List.{List, [], ◌∷◌, ◌++◌, flat_map, append-nil, append_assoc}
-use mathlib.Core.Path.{◌≡◌, refl, sym, ap, ap₂, ◌∙◌}
-use lib.ListN.{length}
-use lib.Seq.{take-suc, take_all}
+use Rattle.std.proofs.Common.{ℕ, ◌+◌, ◌*◌, ◌≤◌, ◌<◌, List, [], ◌∷◌, ◌++◌, ◌≡◌, refl, sym, ap, subst₂, ◌∙◌, arith, add-one, length, get_or, take, append-nil, append_assoc, take-suc, take_all}
+use mathlib.Core.List.{flat_map}
 use Rattle.records.specs.Records.{Record, rows}
-use Rattle.records.specs.RecordsClauses.{get}
-use Rattle.records.specs.RecordsLaws.{length_rows, get_row, take_rows}
 use Rattle.text.specs.Text.{Puts}
-use Rattle.text.specs.TextLaws.{puts_then, puts_none, puts_as}
-use Rattle.text_lines.specs.Lines.{record_line}
+use Rattle.text.specs.TextClauses.{HasRoom, Begun, Wrote}
+use Rattle.text.specs.TextLaws.{wrote_then, wrote_none, wrote_as}
+use Rattle.text.specs.declared.Text.{Text}
+use Rattle.text_lines.specs.Lines.{report_line, record_line}
 use Rattle.text_lines.specs.LinesLaws.{record_short}
-use Rattle.text_run.specs.RunText.{record_lines}
+use Rattle.text_run.specs.RunText.{record_lines, run_text}
 
 flat_append : {A : Type 0} (f : A → List ℕ) (xs ys : List A) → flat_map f (xs ++ ys) ≡ flat_map f xs ++ flat_map f ys
 unfolding flat_map
 flat_append f [] ys = refl
 flat_append f (x ∷ xs) ys = ap (λ (l : List ℕ). f x ++ l) (flat_append f xs ys) ∙ sym (append_assoc (f x) (flat_map f xs) (flat_map f ys))
 
-rows_more : (n : ℕ) (l : List ℕ) → rows (n + 1) l ≡ rows n l ++ (get l n ∷ [])
-rows_more n l =
-    let whole : List Record = rows (suc n) l in
-    ap (λ (m : ℕ). rows m l) (add-one n) ∙ sym (take_all (suc n) whole (omega (arith, length_rows (suc n) l)))
-    ∙ take-suc whole n [] (omega (arith, length_rows (suc n) l))
-    ∙ ap₂ (λ (rs : List Record) (r : Record). rs ++ (r ∷ [])) (take_rows n (suc n) l (omega arith)) (get_row (suc n) l n (omega arith))
+pub record Lines (records : List Record) (before : Text) (i : ℕ) (now : Text) : Type 0 where
+  pub few : i ≤ length records
+  pub wrote : Wrote (flat_map record_line (take i records)) before now
+  pub place : now.len ≤ before.len + 200 * i
 
-lines_more : (n : ℕ) (records : List ℕ) → record_lines n records ++ record_line (get records n) ≡ record_lines (n + 1) records
-unfolding record_lines flat_map
-lines_more n records =
-    ap (λ (l : List ℕ). record_lines n records ++ l) (sym (append-nil (record_line (get records n))))
-    ∙ sym (flat_append record_line (rows n records) (get records n ∷ [])) ∙ ap (flat_map record_line) (sym (rows_more n records))
+module _ {records : List Record} {before : Text} where
+  pub lines_begin : HasRoom 0 before → Lines records before 0 before
+  unfolding flat_map
+  lines_begin room = record { few = omega arith; wrote = wrote_none room; place = omega arith }
 
-pub record Lines (records : List ℕ) (kept at : ℕ) (before : List ℕ) (next i : ℕ) (now : List ℕ) : Type 0 where
-  pub few : i ≤ kept
-  pub place : next ≤ at + 200 * i
-  pub size : length now ≡ length before
-  pub puts : Puts (record_lines i records) at before next now
+  pub lines_room : {i : ℕ} {now : Text} → i < length records → HasRoom (200 * length records) before → Lines records before i now → HasRoom 200 now
+  lines_room less room so_far = omega (arith, so_far.place, so_far.wrote.puts.size)
 
-module _ {records : List ℕ} {kept at : ℕ} {before : List ℕ} where
-  pub lines_begin : at ≤ length before → Lines records kept at before at 0 before
-  unfolding record_lines flat_map rows
-  lines_begin inside = record { few = omega arith; place = omega arith; size = refl; puts = puts_none inside }
-
-  pub lines_then : {next more i : ℕ} {fields now after : List ℕ} → i < kept → fields ≡ get records i → Puts (record_line fields) next now more after
-      → Lines records kept at before next i now → Lines records kept at before more (i + 1) after
-  lines_then {i = i} {fields} below is puts so_far = record {
+  pub lines_then : {i : ℕ} {now after : Text} → i < length records → Wrote (record_line (get_or records i [])) now after → Lines records before i now
+      → Lines records before (i + 1) after
+  unfolding flat_map
+  lines_then {i} less wrote so_far = record {
     few = omega arith;
-    place = omega (arith, so_far.place, puts.end, record_short fields);
-    size = puts.size ∙ so_far.size;
-    puts = puts_as (ap (λ (r : Record). record_lines i records ++ record_line r) is ∙ lines_more i records) (puts_then so_far.puts puts);
+    wrote = wrote_as more (wrote_then so_far.wrote wrote);
+    place = omega (arith, so_far.place, wrote.puts.end, record_short (get_or records i []));
   }
+    where
+      next : Record
+      next = get_or records i []
 
-  pub lines_end : {next i : ℕ} {now : List ℕ} → kept ≤ i → Lines records kept at before next i now → Puts (record_lines kept records) at before next now
-  lines_end {i = i} all done =
-      let whole : i ≡ kept = omega (arith, done.few) in
-      puts_as (ap (λ (n : ℕ). record_lines n records) whole) done.puts
+      more : flat_map record_line (take i records) ++ record_line next ≡ flat_map record_line (take (i + 1) records)
+      more =
+          ap (λ (l : List ℕ). flat_map record_line (take i records) ++ l) (sym (append-nil (record_line next)))
+          ∙ sym (flat_append record_line (take i records) (next ∷ []))
+          ∙ ap (flat_map record_line) (sym (ap (λ (n : ℕ). take n records) (add-one i) ∙ take-suc records i [] less))
+
+  pub lines_end : {i : ℕ} {now : Text} → length records ≤ i → Lines records before i now → Wrote (flat_map record_line records) before now
+  lines_end {i} all done = wrote_as (ap (flat_map record_line) (take_all i records all)) done.wrote
+
+-- a run's text, from the buffer that was lent to the text that is written
+pub run_put : (answer found kept marked : ℕ) (records : List ℕ) {buf left : List ℕ} {n : ℕ} {rs : List Record} {begun reported done : Text} → Begun buf begun
+    → Wrote (report_line answer found kept marked) begun reported → rs ≡ rows kept records → Wrote (flat_map record_line rs) reported done
+    → n ≡ done.len → left ≡ done.buf.now → Puts (run_text answer found kept marked records) 0 buf n left
+unfolding run_text record_lines
+run_put answer found kept marked records {buf} {done = done} new report are lines long end =
+    let text : List ℕ = report_line answer found kept marked ++ flat_map record_line (rows kept records) in
+    let all = wrote_then report (wrote_as (ap (flat_map record_line) are) lines) in
+    subst₂ (λ (m : ℕ) (l : List ℕ). Puts text 0 buf m l) (sym long) (sym end)
+    (subst₂ (λ (m : ℕ) (l : List ℕ). Puts text m l done.len done.buf.now) new.len new.buf all.puts)

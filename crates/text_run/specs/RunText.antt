@@ -1,8 +1,12 @@
 -- What a run prints, as text. Definitions only. Assumes nothing.
 use Rattle.std.specs.Prelude.{ℕ, ◌+◌, ◌*◌, cond, ◌||◌, ltb, length}
 use mathlib.Core.List.{List, [], ◌++◌, flat_map}
-use Rattle.records.specs.Records.{rows}
+use Rattle.records.specs.Records.{Record, rows}
 use Rattle.text_lines.specs.Lines.{report_line, record_line}
+
+-- the lines of records
+abbrev pub lines_of : List Record → List ℕ
+lines_of rs = flat_map record_line rs
 
 -- the lines of the first n records of a buffer
 unfoldable pub record_lines : ℕ → List ℕ → List ℕ

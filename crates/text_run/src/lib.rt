@@ -3,20 +3,19 @@
 
 ghost use Rattle.std.specs.Prelude.{◌+◌, ◌*◌, ◌≤◌, length};
 ghost use Rattle.text.specs.Text.{Puts};
-ghost use Rattle.text_run.specs.RunText.{record_lines, run_text, fitting_text};
+ghost use Rattle.text.specs.TextClauses.{HasRoom, Wrote};
+ghost use Rattle.text_run.specs.RunText.{lines_of, run_text, fitting_text};
 
-// The lines of the first `kept` records, in their order.
-fn put_records(buf: &mut [u8], at: usize, records: &[u32], kept: usize) -> usize
-    requires { (at + 200 * kept ≤ length buf.old) × (40 * kept ≤ length records.now) }
-    ensures { Puts (record_lines kept records.now) at buf.old result buf.new }
+use text::Text;
+
+// The lines of the records, in their order.
+fn put_records(text: &mut Text, records: &[[u32; 40]])
+    requires { HasRoom (200 * length records.now) text.old }
+    ensures { Wrote (lines_of records.now) text.old text.new }
 {
-    let mut next = at;
-    let mut i = 0;
-    while i < kept {
-        next = text_lines::put_record(buf, next, records::load(records, i));
-        i += 1;
+    for fields in records {
+        text_lines::put_record(text, fields);
     }
-    next
 }
 
 // All that a run prints: the line of its report, then those of the kept records.
@@ -31,8 +30,10 @@ pub fn put_run(
     requires { (80 + 200 * kept ≤ length buf.old) × (40 * kept ≤ length records.now) }
     ensures { Puts (run_text answer found kept marked records.now) 0 buf.old result buf.new }
 {
-    let after_report = text_lines::put_report(buf, 0, answer, found, kept, marked);
-    put_records(buf, after_report, records, kept as usize)
+    let mut text = Text::new(buf);
+    text_lines::put_report(&mut text, answer, found, kept, marked);
+    put_records(&mut text, records::front(records, kept as usize));
+    text.len()
 }
 
 // The same for lent buffers of any length: 80 bytes and 200 for each kept record are room enough. Where there is less, or fewer records are lent than

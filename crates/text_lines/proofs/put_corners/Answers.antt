@@ -1,15 +1,20 @@
 -- `text_lines::put_corners` meets its contract.
-use borrow.Author.Rules.{rules}
-use Rattle.text_lines.proofs.Corners.{corners_begin, corners_more, corners_end}
+use Rattle.std.proofs.Common.{arith}
+use Rattle.text_lines.proofs.Corners.{corners_begin, corners_room, corners_long, corners_more, corners_end, corners_grown}
 use Rattle.text_lines.proofs.put_corners.Goals as goal
 
-pub loop-k-init : goal.loop-k-init
-loop-k-init c = corners_begin (search rules)
+pub loop-corner-init : goal.loop-corner-init
+loop-corner-init c = corners_begin (omega (arith, c.requires))
 
-pub loop-k-preserved : goal.loop-k-preserved
-loop-k-preserved c =
-    let put = c.put_next_hex-next.ensures in
-    corners_more (search rules) (search rules) put.1 put.0 (search rules)
+pub put_next_hex-requires : goal.put_next_hex-requires
+put_next_hex-requires c = corners_room (omega (arith, c.loop-corner-test.true, corners_long c.args.fields.now c.told-fields)) c.requires c.loop-corner.invariant
+
+pub loop-corner-preserved : goal.loop-corner-preserved
+loop-corner-preserved c =
+    corners_more (corners_long c.args.fields.now c.told-fields) (omega (arith, c.loop-corner-test.true, corners_long c.args.fields.now c.told-fields))
+    c.put_next_hex.ensures.text c.loop-corner.invariant
 
 pub returns : goal.returns
-returns c = (corners_end (search rules) c.loop-k.invariant, search rules)
+returns c =
+    let wrote = corners_end c.loop-corner-test.false c.loop-corner.invariant in
+    record { text = wrote; len = corners_grown c.args.fields.now wrote }

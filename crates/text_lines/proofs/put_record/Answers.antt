@@ -1,13 +1,6 @@
 -- `text_lines::put_record` meets its contract, part by part.
-use Rattle.text_lines.proofs.Parted.{puts_line}
+use Rattle.text_lines.proofs.Parted.{wrote_line}
 use Rattle.text_lines.proofs.put_record.Goals as goal
 
 pub returns : goal.returns
-returns c =
-    puts_line
-    c.args.fields
-    c.put_circle-after_circle.ensures.0
-    c.put_turn-after_turn.ensures.0
-    c.put_next_hex-after_variance.ensures.0
-    c.put_corners-after_corners.ensures.0
-    c.put.ensures
+returns c = wrote_line c.args.fields.now c.put_circle.ensures.text c.put_turn.ensures.text c.put_next_hex.ensures.text c.put_corners.ensures.text c.put.ensures.text

@@ -1,6 +1,5 @@
 -- `text_run::put_fitting` meets its contract.
-use native.Mathlib.Omega.{arith}
-use mathlib.Core.Path.{sym}
+use Rattle.std.proofs.Common.{arith, sym}
 use Rattle.text.specs.TextLaws.{puts_none, puts_as}
 use Rattle.text_run.proofs.Fitting.{too_short, too_few, fitting}
 use Rattle.text_run.proofs.put_fitting.Goals as goal

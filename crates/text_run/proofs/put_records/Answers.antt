@@ -1,13 +1,16 @@
 -- `text_run::put_records` meets its contract.
-use borrow.Author.Rules.{rules}
-use Rattle.text_run.proofs.Listed.{lines_begin, lines_then, lines_end}
+use Rattle.std.proofs.Common.{arith}
+use Rattle.text_run.proofs.Listed.{lines_begin, lines_room, lines_then, lines_end}
 use Rattle.text_run.proofs.put_records.Goals as goal
 
-pub loop-i-init : goal.loop-i-init
-loop-i-init c = lines_begin (search rules)
+pub loop-fields-init : goal.loop-fields-init
+loop-fields-init c = lines_begin (omega (arith, c.requires))
 
-pub loop-i-preserved : goal.loop-i-preserved
-loop-i-preserved c = search lines_then
+pub put_record-requires : goal.put_record-requires
+put_record-requires c = lines_room c.loop-fields-test.true c.requires c.loop-fields.invariant
+
+pub loop-fields-preserved : goal.loop-fields-preserved
+loop-fields-preserved c = lines_then c.loop-fields-test.true c.put_record.ensures c.loop-fields.invariant
 
 pub returns : goal.returns
-returns c = search lines_end
+returns c = lines_end c.loop-fields-test.false c.loop-fields.invariant
