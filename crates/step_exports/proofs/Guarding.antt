@@ -48,6 +48,10 @@ module _ {P : Type 0} where
   pub decides_false : (P → ⊥) → Decides false P
   decides_false misfit = record { sound = λ e. absurd (true≢false (sym e)); complete = λ p. absurd (misfit p) }
 
+  -- a test that fails where P fails
+  pub decides_failed : {b : Bool} → b ≡ false → (P → ⊥) → Decides b P
+  decides_failed e misfit = record { sound = λ t. absurd (true≢false (sym t ∙ e)); complete = λ p. absurd (misfit p) }
+
   -- what a test that is passed tells
   pub passed_test : {b : Bool} → Decides b P → b ≡ true → P
   passed_test d e = d.sound e

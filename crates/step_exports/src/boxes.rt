@@ -11,7 +11,7 @@ ghost use Rattle.detector_box.specs.Boxes.{symbol_at};
 ghost use Rattle.detector_symbol.specs.Symbols.{with_symbol};
 ghost use Rattle.step_exports.specs.Steps.{Guarded, refused_answer, number_in, shape_in, pixel_in, circle_in, through, sample_number, width_words, pixel_words};
 
-use crate::guards::{REFUSED, is_image, is_lent, is_radius, shape_in};
+use crate::guards::{REFUSED, is_image, is_lent, is_radius};
 use bit_matrix::Shape;
 use detector_circle::Circle;
 use rxing_result_point::PointU;
@@ -32,11 +32,12 @@ pub extern "C" fn step_try_get_area(words: &[u64], marks: &mut [u64], numbers: &
         words.now marks.old result marks.new)
         ((result ≡ refused_answer) × (marks.new ≡ marks.old)) }
 {
-    let shape = shape_in(numbers);
+    let [width, height, x, y] = *numbers;
+    let shape = crop_sizes::shape_of(width, height);
     if !is_image(words, marks, shape) {
         return REFUSED;
     }
-    let sample = bit_matrix_area::try_get_area(words, marks, shape, numbers[2], numbers[3]);
+    let sample = bit_matrix_area::try_get_area(words, marks, shape, x, y);
     sample_number(sample)
 }
 
@@ -55,11 +56,9 @@ pub extern "C" fn step_find_width_at_degree(
         words.now marks.old out.new marks.new)
         ((result ≡ refused_answer) × (marks.new ≡ marks.old) × (out.new ≡ out.old)) }
 {
-    let shape = shape_in(numbers);
-    let center = PointU {
-        x: numbers[2],
-        y: numbers[3],
-    };
+    let [width, height, x, y] = *numbers;
+    let shape = crop_sizes::shape_of(width, height);
+    let center = PointU { x, y };
     if !is_lent(words, marks, shape, center) {
         return REFUSED;
     }
@@ -91,11 +90,9 @@ pub extern "C" fn step_corrected_center(
         words.now marks.old out.new marks.new)
         ((result ≡ refused_answer) × (marks.new ≡ marks.old) × (out.new ≡ out.old)) }
 {
-    let shape = shape_in(numbers);
-    let center = PointU {
-        x: numbers[2],
-        y: numbers[3],
-    };
+    let [width, height, x, y] = *numbers;
+    let shape = crop_sizes::shape_of(width, height);
+    let center = PointU { x, y };
     if !is_lent(words, marks, shape, center) {
         return REFUSED;
     }
@@ -137,12 +134,9 @@ pub extern "C" fn step_box_symbol(
         words.now marks.old fields.new marks.new)
         ((result ≡ refused_answer) × (marks.new ≡ marks.old) × (fields.new ≡ fields.old)) }
 {
-    let shape = shape_in(numbers);
-    let center = PointU {
-        x: numbers[2],
-        y: numbers[3],
-    };
-    let radius = numbers[4];
+    let [width, height, x, y, radius] = *numbers;
+    let shape = crop_sizes::shape_of(width, height);
+    let center = PointU { x, y };
     if !is_lent(words, marks, shape, center) {
         return REFUSED;
     }

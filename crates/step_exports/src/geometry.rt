@@ -25,7 +25,7 @@ ghost use Rattle.step_exports.specs.Steps.{
   point_words,
 };
 
-use crate::guards::{REFUSED, is_centered, is_radius, is_scale, shape_in};
+use crate::guards::{REFUSED, is_centered, is_radius, is_scale};
 use rxing_result_point::{Point, PointU};
 use sines::Sines;
 
@@ -64,12 +64,9 @@ pub extern "C" fn step_scaled_boundary(numbers: &[u32; 5], scale: u64, out: &mut
         ((result ≡ 0) × (out.new ≡ boundary_words (boundary_in numbers.now scale)))
         ((result ≡ refused_answer) × (out.new ≡ out.old)) }
 {
-    let shape = shape_in(numbers);
-    let center = PointU {
-        x: numbers[2],
-        y: numbers[3],
-    };
-    let radius = numbers[4];
+    let [width, height, x, y, radius] = *numbers;
+    let shape = crop_sizes::shape_of(width, height);
+    let center = PointU { x, y };
     if !is_centered(shape, center) {
         return REFUSED;
     }
@@ -106,15 +103,10 @@ pub extern "C" fn step_adjust_point_alternate(
         ((result ≡ 0) × (out.new ≡ pixel_words (adjusted_point (boundary_in numbers.now scale) (pixel_in numbers.now 5))))
         ((result ≡ refused_answer) × (out.new ≡ out.old)) }
 {
-    let shape = shape_in(numbers);
-    let x = numbers[2];
-    let y = numbers[3];
+    let [width, height, x, y, radius, column, row] = *numbers;
+    let shape = crop_sizes::shape_of(width, height);
     let center = PointU { x, y };
-    let radius = numbers[4];
-    let cell = PointU {
-        x: numbers[5],
-        y: numbers[6],
-    };
+    let cell = PointU { x: column, y: row };
     let percent = std::num::f64_from_bits_with_nan(scale);
     if !is_centered(shape, center) {
         return REFUSED;
@@ -140,15 +132,14 @@ pub extern "C" fn step_get_point(numbers: &[u32; 5], out: &mut [u32; 2])
     ensures { out.new ≡
         point_words (get_point (pixel_in numbers.now 0) (pixel_in numbers.now 2) (number_in numbers.now 4)) }
 {
+    let [center_x, center_y, x, y, degree] = *numbers;
     let center = PointU {
-        x: numbers[0],
-        y: numbers[1],
+        x: center_x,
+        y: center_y,
     };
-    let original = PointU {
-        x: numbers[2],
-        y: numbers[3],
-    };
-    let point = rxing_result_point::get_point(center, original, &Sines::new(), numbers[4]);
+    let original = PointU { x, y };
+    let table = sines::table();
+    let point = rxing_result_point::get_point(center, original, &table, degree);
     *out = [std::num::f32_to_bits_with_nan(point.x), std::num::f32_to_bits_with_nan(point.y)];
 }
 
@@ -168,9 +159,10 @@ pub extern "C" fn step_find_center(numbers: &[u32; 6], out: &mut [u32; 2])
     ensures { out.new ≡
         point_words (find_center (point_in numbers.now 0) (point_in numbers.now 2) (point_in numbers.now 4)) }
 {
-    let first = point_of(numbers[0], numbers[1]);
-    let second = point_of(numbers[2], numbers[3]);
-    let third = point_of(numbers[4], numbers[5]);
+    let [x1, y1, x2, y2, x3, y3] = *numbers;
+    let first = point_of(x1, y1);
+    let second = point_of(x2, y2);
+    let third = point_of(x3, y3);
     let point = detector_center::find_center(first, second, third);
     *out = [std::num::f32_to_bits_with_nan(point.x), std::num::f32_to_bits_with_nan(point.y)];
 }

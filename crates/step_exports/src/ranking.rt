@@ -5,7 +5,7 @@ ghost use Rattle.detector_kept.specs.Spread.{spread};
 ghost use Rattle.detector_kept.specs.KeptClauses.{KeptAndRanked};
 ghost use Rattle.step_exports.specs.Steps.{Guarded, SmallTo, refused_answer, spread_words};
 
-use crate::guards::{REFUSED, REFUSED_COUNT, all_small};
+use crate::guards::{REFUSED, all_small};
 
 // Deviation and mean of the centres, each x then y.
 #[unsafe(no_mangle)]
@@ -42,10 +42,10 @@ pub extern "C" fn step_keep_and_rank(records: &mut [u32], found: u32) -> usize
     let count = found as usize;
     let capacity = records::capacity_of(records.len());
     if count > capacity {
-        return REFUSED_COUNT;
+        return REFUSED as usize;
     }
     if !all_small(records, 40 * count) {
-        return REFUSED_COUNT;
+        return REFUSED as usize;
     }
     detector_kept::keep_and_rank(records, count, capacity)
 }

@@ -7,7 +7,7 @@ ghost use Rattle.detector_candidates.specs.CandidatesClauses.{Room, Listed};
 ghost use Rattle.step_exports.specs.Row.{black_from};
 ghost use Rattle.step_exports.specs.Steps.{Guarded, refused_answer, number_in, shape_in};
 
-use crate::guards::{REFUSED, REFUSED_COUNT, is_image, shape_in};
+use crate::guards::{REFUSED, is_image};
 use bit_matrix::Shape;
 
 // How many of a row's first columns are black.
@@ -16,11 +16,8 @@ fn count_row(words: &[u64], marks: &mut [u64], shape: Shape, row: u32, columns: 
     ensures { Ran (black_from shape row columns 0 0) words.now marks.old result marks.new }
 {
     let mut count = 0u32;
-    let mut x = 0u32;
-    while x < columns {
-        let black = bit_matrix::get(words, marks, shape, x, row);
-        count += black as u32;
-        x += 1;
+    for x in 0..columns {
+        count += u32::from(bit_matrix::get(words, marks, shape, x, row));
     }
     count
 }
@@ -34,11 +31,12 @@ pub extern "C" fn step_count_row(words: &[u64], marks: &mut [u64], numbers: &[u3
         words.now marks.old result marks.new)
         ((result ≡ refused_answer) × (marks.new ≡ marks.old)) }
 {
-    let shape = shape_in(numbers);
+    let [width, height, row, columns] = *numbers;
+    let shape = crop_sizes::shape_of(width, height);
     if !is_image(words, marks, shape) {
         return REFUSED;
     }
-    count_row(words, marks, shape, numbers[2], numbers[3])
+    count_row(words, marks, shape, row, columns)
 }
 
 // The candidates of an image. The numbers: width, height, capacity.
@@ -55,13 +53,13 @@ pub extern "C" fn step_find_concentric_circles(
         words.now marks.old records.old result marks.new records.new)
         ((result ≡ refused_answer) × (marks.new ≡ marks.old) × (records.new ≡ records.old)) }
 {
-    let shape = shape_in(numbers);
+    let [width, height, capacity] = *numbers;
+    let shape = crop_sizes::shape_of(width, height);
     if !is_image(words, marks, shape) {
-        return REFUSED_COUNT;
+        return REFUSED as usize;
     }
-    let capacity = numbers[2];
     if capacity > records::capacity_of(records.len()) as u32 {
-        return REFUSED_COUNT;
+        return REFUSED as usize;
     }
     detector_candidates::find_concentric_circles(words, marks, records, shape, capacity as usize)
 }

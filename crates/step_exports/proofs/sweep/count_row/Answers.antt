@@ -51,7 +51,8 @@ pub overflow_add-count : goal.overflow_add-count
 overflow_add-count c = record { fits = search (room_for, rules) }
 
 pub loop-x-preserved : goal.loop-x-preserved
-loop-x-preserved c = search onward
+loop-x-preserved c =
+    rw c.from-count.ensures (onward c.loop-x.invariant c.loop-x-test.true c.get.ensures c.get.auto.marks)
 
 pub returns : goal.returns
 returns c = search at_end

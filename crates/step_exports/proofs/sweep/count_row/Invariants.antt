@@ -1,5 +1,5 @@
 -- `step_exports::sweep::count_row` meets its contract. The invariant is `Counting`: from the present column, what is left of the definition ends as the
--- whole does. The measure is the columns left.
+-- whole does.
 use Prim.Native.Nat.{ℕ, ◌-◌, ◌≤◌}
 use mathlib.Core.List.{List}
 use Rattle.reads.specs.RunsClauses.{Resumes}
@@ -15,6 +15,3 @@ pub record Counting (words marks₀ : List ℕ) (shape : Shape) (row columns : �
 
 abbrev pub invariant-loop-x : goal.invariant-loop-x
 invariant-loop-x l = Counting l.words l.initial.marks l.shape l.row l.columns l.marks l.count l.x
-
-abbrev pub decreases-loop-x : goal.decreases-loop-x
-decreases-loop-x l = l.columns - l.x
