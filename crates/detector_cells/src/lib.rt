@@ -11,7 +11,7 @@ ghost use Rattle.detector_cells.specs.Cells.{cell_word, cells_of, cells_run, rea
 
 use bit_matrix::Shape;
 use bit_matrix_rectangle::{Enclosing, Rectangle};
-use detector_points::{MATRIX_HEIGHT, MATRIX_WIDTH, least};
+use detector_points::{MATRIX_HEIGHT, MATRIX_WIDTH};
 
 // `get` of bit_matrix.rs without a mark: the pixel at column x of row y, which lies inside.
 fn get(words: &[u64], shape: Shape, x: u32, y: u32) -> bool
@@ -29,15 +29,12 @@ fn read_row(words: &[u64], shape: Shape, rectangle: Rectangle, y: u32) -> u32
 {
     let width = rectangle.width;
     let height = rectangle.height;
-    let iy = least(
-        rectangle.top + (y * height + height / 2) / MATRIX_HEIGHT,
-        height - 1,
-    );
+    let iy = (rectangle.top + (y * height + height / 2) / MATRIX_HEIGHT).min(height - 1);
     let half = y % 2 * width / 2;
     let mut cells = 0u32;
     let mut x = 0;
     while x < MATRIX_WIDTH {
-        let ix = rectangle.left + least((x * width + width / 2 + half) / MATRIX_WIDTH, width - 1);
+        let ix = rectangle.left + ((x * width + width / 2 + half) / MATRIX_WIDTH).min(width - 1);
         cells |= (get(words, shape, ix, iy) as u32) << x;
         x += 1;
     }

@@ -85,7 +85,7 @@ get-requires c = search cell_at
 pub loop-x-preserved : goal.loop-x-preserved
 loop-x-preserved c =
     let x = c.loop-x.x in
-    let is = cell_is c.requires.0 c.args.rectangle c.requires.2 x c.args.y c.least.ensures c.least-iy.ensures
+    let is = cell_is c.requires.0 c.args.rectangle c.requires.2 x c.args.y c.min.ensures c.min-iy.ensures
     c.args.words.now c.get.ensures in
     let cells : ℕ → Bool = λ i. cell (black_at c.args.shape c.args.words.now) c.args.rectangle i c.args.y in
     (omega arith, more cells x (omega arith) c.loop-x.invariant.1 is)
