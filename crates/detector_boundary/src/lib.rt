@@ -24,13 +24,7 @@ fn clamp(z: i32, low: i32, high: i32) -> u32
     requires { Range low high }
     ensures { result ≡ clamped z (unsigned_abs low) (unsigned_abs high) }
 {
-    if z < low {
-        low as u32
-    } else if z > high {
-        high as u32
-    } else {
-        z as u32
-    }
+    z.clamp(low, high) as u32
 }
 
 const LEFT_SHIFT_PERCENT_ADJUST: f32 = 0.03;

@@ -1,12 +1,6 @@
 -- A cell by its test, products that fit, and three points as a list. Assumes nothing.
-use Prim.Native.Nat.{ℕ, zero, suc, ◌-◌, ◌*◌, ◌%◌, ◌≤◌}
-use native.Mathlib.Nat.{mul-le-mul}
-use native.Mathlib.Omega.{arith}
-use mathlib.Core.List.{List, [], ◌∷◌}
-use mathlib.Core.Path.{◌≡◌}
-use lib.Dec.{T, ltb, ltb→lt}
+use Rattle.std.proofs.Common.{ℕ, zero, suc, ◌-◌, ◌*◌, ◌%◌, ◌≤◌, mul-le-mul, arith, List, [], ◌∷◌, ◌≡◌, T, ltb, ltb→lt, length, get_or}
 use lib.Ieee.Fits.{and_l, and_r}
-use lib.ListN.{length, get_or}
 use Rattle.rxing_result_point.specs.declared.PointU.{PointU}
 use Rattle.detector_boundary.specs.declared.Boundary.{Boundary}
 use Rattle.detector_boundary.specs.BoundaryClauses.{Placed}

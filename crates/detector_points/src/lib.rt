@@ -2,7 +2,7 @@
 // boundary and nothing of the circle or the scale that it comes from.
 #![tactic(auto)]
 
-ghost use Rattle.std.specs.Prelude.{◌≡◌, min, T};
+ghost use Rattle.std.specs.Prelude.{◌≡◌, T};
 ghost use Rattle.detector_boundary.specs.BoundaryClauses.{Placed};
 ghost use Rattle.detector_points.specs.Orientation.{adjusted_point, adjusted_points, orientation_points};
 ghost use Rattle.detector_points.specs.OrientationClauses.{is_cell, are_cells};
@@ -15,13 +15,6 @@ pub const MATRIX_WIDTH: u32 = 30;
 
 pub const MATRIX_HEIGHT: u32 = 33;
 
-// Rust's `a.min(b)`.
-pub fn least(a: u32, b: u32) -> u32
-    ensures { result ≡ min a b }
-{
-    if a < b { a } else { b }
-}
-
 // A cell as a pixel. The row is capped after the bottom is added, the column before the left is, as the source has it.
 pub fn adjust_point_alternate(point: PointU, boundary: Boundary) -> PointU
     requires { T (is_cell point) × Placed boundary }
@@ -33,18 +26,13 @@ pub fn adjust_point_alternate(point: PointU, boundary: Boundary) -> PointU
     let width = boundary.right - boundary.left;
     let y = point.y;
     let x = point.x;
-    let iy = least(
-        bottom + (y * height + height / 2) / MATRIX_HEIGHT,
-        height - 1,
-    );
+    let iy = (bottom + (y * height + height / 2) / MATRIX_HEIGHT).min(height - 1);
     let ix = boundary.left
-        + least(
-            (x * width + width / 2 + y % 2 * width / 2) / MATRIX_WIDTH,
-            width - 1,
-        );
+        + ((x * width + width / 2 + y % 2 * width / 2) / MATRIX_WIDTH).min(width - 1);
     PointU { x: ix, y: iy }
 }
 
+// Three points by name: `origin.map` would owe a proof that each call may be made, of a closure and an iterator's steps.
 pub fn get_adjusted_points(origin: [PointU; 3], boundary: Boundary) -> [PointU; 3]
     requires { T (are_cells origin) × Placed boundary }
     ensures { result ≡ adjusted_points boundary origin }

@@ -20,7 +20,7 @@ pub fn guess_barcode_size_general(
     requires { radius < 65536 }
     ensures { result ≡ guessed_size radius height_adjust_percent circle_area_percent height_final_adjust_percent }
 {
-    let circle_area = 3.141592653589793 * ((radius * radius) as f64);
+    let circle_area = std::f64::consts::PI * ((radius * radius) as f64);
     let ideal_symbol_area = circle_area / circle_area_percent / (1.0 - height_adjust_percent);
     let ideal_symbol_side = ieee_sqrt::sqrt_f64(ideal_symbol_area);
     Size {

@@ -1,8 +1,8 @@
 -- The sums of `calculate_circle_variance`, and how they are put together. Assumes nothing.
-use Rattle.std.proofs.Common.{◌≡◌, ℕ, ◌+◌, ◌<◌, List, get_or, refl, ap, ◌∙◌, ap₂, arith}
+use Rattle.std.proofs.Common.{◌≡◌, ℕ, ◌+◌, ◌<◌, List, get_or, true, false, ◌≢◌, add-one, eq-eqb, ne_eqb, refl, ap, ◌∙◌, ap₂}
 use lib.Ieee.{Float, binary32, of_bits, add, div}
 use Rattle.rxing_result_point.specs.Points.{real}
-use Rattle.detector_variance.specs.Variance.{evens, odds, others, width_to, tenth_of_width, further, variance_to, expected_area, area_variance, circle_variance}
+use Rattle.detector_variance.specs.Variance.{takes, evens, odds, others, width_to, tenth_of_width, further, variance_to, expected_area, area_variance, circle_variance}
 use Rattle.detector_variance.specs.VarianceClauses.{Short}
 
 -- ---- the runs
@@ -10,53 +10,24 @@ use Rattle.detector_variance.specs.VarianceClauses.{Short}
 pub run_small : {l : List ℕ} → Short l → (i : ℕ) → get_or l i 0 < 65536
 run_small short i = short.small i
 
--- ---- `total_width_even`, `total_width_odd`
+-- ---- one run more, taken or not
 
-pub width_even_is : (h v : List ℕ) (h0 v0 h2 v2 h4 v4 h6 v6 h8 v8 h10 v10 : ℕ)
-    → h0 ≡ get_or h 0 0 → v0 ≡ get_or v 0 0 → h2 ≡ get_or h 2 0 → v2 ≡ get_or v 2 0 → h4 ≡ get_or h 4 0 → v4 ≡ get_or v 4 0 → h6 ≡ get_or h 6 0
-    → v6 ≡ get_or v 6 0 → h8 ≡ get_or h 8 0 → v8 ≡ get_or v 8 0 → h10 ≡ get_or h 10 0 → v10 ≡ get_or v 10 0
-    → h0 + v0 + h2 + v2 + h4 + v4 + h6 + v6 + h8 + v8 + h10 + v10 ≡ width_to evens h v 11
+pub width_taken : (t h v : List ℕ) (i w : ℕ) → w ≡ width_to t h v i → get_or t i 0 ≡ 1 → w + (get_or h i 0 + get_or v i 0) ≡ width_to t h v (i + 1)
 unfolding width_to
-width_even_is h v h0 v0 h2 v2 h4 v4 h6 v6 h8 v8 h10 v10 eh0 ev0 eh2 ev2 eh4 ev4 eh6 ev6 eh8 ev8 eh10 ev10 = omega arith
+width_taken t h v i w e one = let yes : takes t i ≡ true = eq-eqb (get_or t i 0) 1 one in rw (add-one, yes, e) refl
 
-pub width_odd_is : (h v : List ℕ) (h1 v1 h3 v3 h7 v7 h9 v9 : ℕ)
-    → h1 ≡ get_or h 1 0 → v1 ≡ get_or v 1 0 → h3 ≡ get_or h 3 0 → v3 ≡ get_or v 3 0 → h7 ≡ get_or h 7 0 → v7 ≡ get_or v 7 0 → h9 ≡ get_or h 9 0 → v9 ≡ get_or v 9 0
-    → h1 + v1 + h3 + v3 + h7 + v7 + h9 + v9 ≡ width_to odds h v 11
+pub width_left : (t h v : List ℕ) (i w : ℕ) → w ≡ width_to t h v i → get_or t i 0 ≢ 1 → w ≡ width_to t h v (i + 1)
 unfolding width_to
-width_odd_is h v h1 v1 h3 v3 h7 v7 h9 v9 eh1 ev1 eh3 ev3 eh7 ev7 eh9 ev9 = omega arith
+width_left t h v i w e other = let no : takes t i ≡ false = ne_eqb (get_or t i 0) 1 other in rw (add-one, no, e) refl
 
--- ---- `total_variance_even`, `total_variance_odd`
-
--- a step from what is known of the sum so far
-step_is : (expected : Float) {acc sum : Float} {n m : ℕ} {to : Float} → acc ≡ sum → n ≡ m → to ≡ further expected acc n → to ≡ further expected sum m
-step_is expected e k made = made ∙ ap₂ (further expected) e k
-
-pub variance_even_is : (h : List ℕ) (expected : Float) (a0 a2 a4 a6 a8 a10 : Float) (n0 n2 n4 n6 n8 n10 : ℕ)
-    → n0 ≡ get_or h 0 0 → a0 ≡ further expected (of_bits binary32 0) n0 → n2 ≡ get_or h 2 0 → a2 ≡ further expected a0 n2 → n4 ≡ get_or h 4 0
-    → a4 ≡ further expected a2 n4 → n6 ≡ get_or h 6 0 → a6 ≡ further expected a4 n6 → n8 ≡ get_or h 8 0 → a8 ≡ further expected a6 n8
-    → n10 ≡ get_or h 10 0 → a10 ≡ further expected a8 n10
-    → a10 ≡ variance_to evens h expected 11
+pub variance_taken : (t h : List ℕ) (expected d : Float) (i : ℕ) → d ≡ variance_to t h expected i → get_or t i 0 ≡ 1
+    → further expected d (get_or h i 0) ≡ variance_to t h expected (i + 1)
 unfolding variance_to
-variance_even_is h expected a0 a2 a4 a6 a8 a10 n0 n2 n4 n6 n8 n10 r0 s0 r2 s2 r4 s4 r6 s6 r8 s8 r10 s10 =
-    step_is expected (step_is expected
-    (step_is expected (step_is expected (step_is expected (step_is expected {acc = of_bits binary32 0} refl r0 s0) r2 s2) r4 s4) r6 s6) r8 s8) r10 s10
+variance_taken t h expected d i e one = let yes : takes t i ≡ true = eq-eqb (get_or t i 0) 1 one in rw (add-one, yes, e) refl
 
-pub variance_front_is : (h : List ℕ) (expected : Float) (a1 a2 a3 a4 : Float) (n1 n2 n3 n4 : ℕ)
-    → n1 ≡ get_or h 1 0 → a1 ≡ further expected (of_bits binary32 0) n1 → n2 ≡ get_or h 2 0 → a2 ≡ further expected a1 n2 → n3 ≡ get_or h 3 0
-    → a3 ≡ further expected a2 n3 → n4 ≡ get_or h 4 0 → a4 ≡ further expected a3 n4
-    → a4 ≡ variance_to others h expected 5
+pub variance_left : (t h : List ℕ) (expected d : Float) (i : ℕ) → d ≡ variance_to t h expected i → get_or t i 0 ≢ 1 → d ≡ variance_to t h expected (i + 1)
 unfolding variance_to
-variance_front_is h expected a1 a2 a3 a4 n1 n2 n3 n4 r1 s1 r2 s2 r3 s3 r4 s4 =
-    step_is expected (step_is expected (step_is expected (step_is expected {acc = of_bits binary32 0} refl r1 s1) r2 s2) r3 s3) r4 s4
-
-pub variance_odd_is : (h : List ℕ) (expected : Float) (to4 : Float) (a6 a7 a8 a9 a10 : Float) (n6 n7 n8 n9 n10 : ℕ)
-    → to4 ≡ variance_to others h expected 5 → n6 ≡ get_or h 6 0 → a6 ≡ further expected to4 n6 → n7 ≡ get_or h 7 0 → a7 ≡ further expected a6 n7
-    → n8 ≡ get_or h 8 0 → a8 ≡ further expected a7 n8 → n9 ≡ get_or h 9 0 → a9 ≡ further expected a8 n9 → n10 ≡ get_or h 10 0
-    → a10 ≡ further expected a9 n10
-    → a10 ≡ variance_to others h expected 11
-unfolding variance_to
-variance_odd_is h expected to4 a6 a7 a8 a9 a10 n6 n7 n8 n9 n10 e r6 s6 r7 s7 r8 s8 r9 s9 r10 s10 =
-    step_is expected (step_is expected (step_is expected (step_is expected (step_is expected e r6 s6) r7 s7) r8 s8) r9 s9) r10 s10
+variance_left t h expected d i e other = let no : takes t i ≡ false = ne_eqb (get_or t i 0) 1 other in rw (add-one, no, e) refl
 
 -- ---- `calculate_circle_variance`
 

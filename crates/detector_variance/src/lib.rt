@@ -2,33 +2,29 @@
 // ask nothing of their argument, so no function's proof needs a float's range.
 #![tactic(auto)]
 
-ghost use Rattle.std.specs.Prelude.{◌≡◌, ◌<◌, slice_index};
-ghost use Rattle.detector_variance.specs.Variance.{evens, odds, others, width_to, further, variance_to, expected_area, area_variance, circle_variance};
+ghost use Rattle.std.specs.Prelude.{◌≡◌, ◌<◌};
+ghost use Rattle.detector_variance.specs.Variance.{width_to, further, variance_to, expected_area, area_variance, circle_variance};
 ghost use Rattle.detector_variance.specs.VarianceClauses.{Short};
 
-// Run i.
-fn run(runs: &[u32], i: usize) -> u32
-    requires { Short runs.now × (i < 11) }
-    ensures { (result ≡ slice_index runs.now i) × (result < 65536) }
-{
-    runs[i]
-}
+// Which runs a sum takes, by 1: the even ones; of the odd ones all but the middle one; all but the first and the middle one.
+const EVENS: [u8; 11] = [1, 0, 1, 0, 1, 0, 1, 0, 1, 0, 1];
 
-// The width of the even runs, row and column.
-fn total_width_even(h: &[u32], v: &[u32]) -> u32
-    requires { Short h.now × Short v.now }
-    ensures { result ≡ width_to evens h.now v.now 11 }
-{
-    let first = run(h, 0) + run(v, 0) + run(h, 2) + run(v, 2) + run(h, 4) + run(v, 4);
-    first + run(h, 6) + run(v, 6) + run(h, 8) + run(v, 8) + run(h, 10) + run(v, 10)
-}
+const ODDS: [u8; 11] = [0, 1, 0, 1, 0, 0, 0, 1, 0, 1, 0];
 
-// The width of the odd runs but the middle one.
-fn total_width_odd(h: &[u32], v: &[u32]) -> u32
+const OTHERS: [u8; 11] = [0, 1, 1, 1, 1, 0, 1, 1, 1, 1, 1];
+
+// The width of those that t takes, row and column.
+fn total_width(t: &[u8; 11], h: &[u32], v: &[u32]) -> u32
     requires { Short h.now × Short v.now }
-    ensures { result ≡ width_to odds h.now v.now 11 }
+    ensures { result ≡ width_to t.now h.now v.now 11 }
 {
-    run(h, 1) + run(v, 1) + run(h, 3) + run(v, 3) + run(h, 7) + run(v, 7) + run(h, 9) + run(v, 9)
+    let mut width = 0;
+    for i in 0..11 {
+        if t[i] == 1 {
+            width += h[i] + v[i];
+        }
+    }
+    width
 }
 
 // acc, and how far the run n is from what is expected.
@@ -38,40 +34,18 @@ fn further_by(expected: f32, acc: f32, n: u32) -> f32
     acc + ieee::abs_f32(expected - std::num::nearest_u32_to_f32(n))
 }
 
-// How far the even row runs are from what is expected, added in their order.
-fn total_variance_even(h: &[u32], expected: f32) -> f32
+// How far the row runs that t takes are from what is expected, added in their order.
+fn total_variance(t: &[u8; 11], h: &[u32], expected: f32) -> f32
     requires { Short h.now }
-    ensures { result ≡ variance_to evens h.now expected 11 }
+    ensures { result ≡ variance_to t.now h.now expected 11 }
 {
-    let to_0 = further_by(expected, 0.0, run(h, 0));
-    let to_2 = further_by(expected, to_0, run(h, 2));
-    let to_4 = further_by(expected, to_2, run(h, 4));
-    let to_6 = further_by(expected, to_4, run(h, 6));
-    let to_8 = further_by(expected, to_6, run(h, 8));
-    further_by(expected, to_8, run(h, 10))
-}
-
-// The same of all row runs but the first and the middle one, up to run 4, and then on to run 10.
-fn total_variance_odd_front(h: &[u32], expected: f32) -> f32
-    requires { Short h.now }
-    ensures { result ≡ variance_to others h.now expected 5 }
-{
-    let to_1 = further_by(expected, 0.0, run(h, 1));
-    let to_2 = further_by(expected, to_1, run(h, 2));
-    let to_3 = further_by(expected, to_2, run(h, 3));
-    further_by(expected, to_3, run(h, 4))
-}
-
-fn total_variance_odd(h: &[u32], expected: f32) -> f32
-    requires { Short h.now }
-    ensures { result ≡ variance_to others h.now expected 11 }
-{
-    let to_4 = total_variance_odd_front(h, expected);
-    let to_6 = further_by(expected, to_4, run(h, 6));
-    let to_7 = further_by(expected, to_6, run(h, 7));
-    let to_8 = further_by(expected, to_7, run(h, 8));
-    let to_9 = further_by(expected, to_8, run(h, 9));
-    further_by(expected, to_9, run(h, 10))
+    let mut variance = 0.0;
+    for i in 0..11 {
+        if t[i] == 1 {
+            variance = further_by(expected, variance, h[i]);
+        }
+    }
+    variance
 }
 
 // The area of a circle as wide as the run n.
@@ -79,7 +53,7 @@ fn expected_area(n: u32) -> f32
     requires { n < 65536 }
     ensures { result ≡ expected_area n }
 {
-    std::num::nearest_u32_to_f32((n / 2) * (n / 2)) * 3.1415927
+    std::num::nearest_u32_to_f32((n / 2) * (n / 2)) * std::f32::consts::PI
 }
 
 // How far two areas are from their mean.
@@ -95,10 +69,10 @@ pub fn calculate_circle_variance(h: &[u32], v: &[u32]) -> f32
     requires { Short h.now × Short v.now }
     ensures { result ≡ circle_variance h.now v.now }
 {
-    let module_even = std::num::nearest_u32_to_f32(total_width_even(h, v)) / 10.0;
-    let module_odd = std::num::nearest_u32_to_f32(total_width_odd(h, v)) / 10.0;
-    let even = total_variance_even(h, module_even);
-    let odd = total_variance_odd(h, module_odd);
+    let module_even = std::num::nearest_u32_to_f32(total_width(&EVENS, h, v)) / 10.0;
+    let module_odd = std::num::nearest_u32_to_f32(total_width(&ODDS, h, v)) / 10.0;
+    let even = total_variance(&EVENS, h, module_even);
+    let odd = total_variance(&OTHERS, h, module_odd);
     let horizontal = expected_area(v[5]);
     let vertical = expected_area(h[5]);
     (even + odd + circle_area_variance(horizontal, vertical)) / 3.0

@@ -27,9 +27,7 @@ pub fn set_variances(records: &mut [u32], count: usize)
     requires { (40 * count ≤ length records.old) × Each Small (rows count records.old) }
     ensures { Became count records.old (map with_variance (rows count records.old)) records.new }
 {
-    let mut i = 0usize;
-    while i < count {
+    for i in 0..count {
         records[40 * i + records::VARIANCE] = variance_bits(records, i);
-        i += 1;
     }
 }

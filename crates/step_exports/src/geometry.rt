@@ -138,8 +138,7 @@ pub extern "C" fn step_get_point(numbers: &[u32; 5], out: &mut [u32; 2])
         y: center_y,
     };
     let original = PointU { x, y };
-    let table = sines::table();
-    let point = rxing_result_point::get_point(center, original, &table, degree);
+    let point = rxing_result_point::get_point(center, original, &Sines::new(), degree);
     *out = [std::num::f32_to_bits_with_nan(point.x), std::num::f32_to_bits_with_nan(point.y)];
 }
 

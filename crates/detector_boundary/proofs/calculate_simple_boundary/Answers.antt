@@ -1,5 +1,5 @@
 -- `detector_boundary::calculate_simple_boundary` meets its contract: a sum or difference that fits, clamped, for each of the four.
-use Rattle.std.proofs.Common.{◌≡◌, ℕ, ◌+◌, ◌-◌, ◌/◌, ◌≤◌, ℤ, pos, ◌+ℤ◌, ◌-ℤ◌, nat_abs, sym, ap, ◌∙◌, ap₂, arith, lit<, w32, SFits, to_z, rules}
+use Rattle.std.proofs.Common.{◌≡◌, ℕ, ◌+◌, ◌-◌, ◌/◌, ◌≤◌, ℤ, pos, ◌+ℤ◌, ◌-ℤ◌, nat_abs, sym, ap, ◌∙◌, ap₂, arith, w32, SFits, to_z}
 use lib.Signed.{quot_z}
 use lib.Ieee.{Float, binary32, of_bits, of_int, add, sub, mul, div, to_signed}
 use mir.ValLaws.{to_z_pos}
@@ -9,7 +9,7 @@ use Rattle.detector_boundary.specs.declared.Boundary.{Boundary}
 use Rattle.detector_boundary.specs.Boundary.{clamped, left_shift, right_shift, boundary_of}
 use Rattle.detector_boundary.specs.BoundaryClauses.{Centered}
 use Rattle.detector_boundary.specs.ShiftLaws.{Natural, left_shift_lem, right_shift_lem}
-use Rattle.detector_boundary.proofs.Signed.{read, natural_read, half_is, half_fits, less_fits, more_fits, less_read, more_read, margin_fits, margin_read, margin_range, size_range}
+use Rattle.detector_boundary.proofs.Signed.{read, natural_read, half_is, less_fits, more_fits, less_read, more_read, margin_read}
 use Rattle.detector_boundary.proofs.calculate_simple_boundary.Goals as goal
 
 -- half of a width that is w as an f32, and 0.03 of it
@@ -93,12 +93,6 @@ module _ {shape : Shape} {center : PointU} (p : Centered shape center) where
     half_read : read up_down ≡ pos (tall / 2)
     half_read = natural_read _ half_few (half_is tall few)
 
-    top_fits : SFits w32 (to_z w32 y +ℤ read up_down)
-    top_fits = more_fits y _ up_down row half_few half_read
-
-    bottom_fits : SFits w32 (to_z w32 y -ℤ read up_down)
-    bottom_fits = less_fits y _ up_down row half_few half_read
-
     top_is : {r : ℕ} → r ≡ clamped (read (to_z w32 y +ℤ read up_down)) 33 (nat_abs (to_z w32 height)) → r ≡ clamped (pos y +ℤ pos (tall / 2)) 33 height
     top_is g =
         g
@@ -115,38 +109,11 @@ same_boundary : {l r t b l' r' t' b' : ℕ} → l ≡ l' → r ≡ r' → t ≡ 
     → ◌≡◌ {A = Boundary} (record { left = l; right = r; top = t; bottom = b }) (record { left = l'; right = r'; top = t'; bottom = b' })
 same_boundary p q r s = cc
 
-pub nonzero_div-up_down_shift : goal.nonzero_div-up_down_shift
-nonzero_div-up_down_shift c = (lit< tt, half_fits c.args.size.height c.requires.2)
-
 pub overflow_sub-center : goal.overflow_sub-center
 overflow_sub-center c = search left_fits
 
-pub overflow_sub-shape : goal.overflow_sub-shape
-overflow_sub-shape c = search (margin_fits, rules)
-
-pub clamp-requires : goal.clamp-requires
-clamp-requires c = search (margin_range, rules)
-
 pub overflow_add-center : goal.overflow_add-center
 overflow_add-center c = search right_fits
-
-pub clamp-requires-2 : goal.clamp-requires-2
-clamp-requires-2 c = search (size_range, rules)
-
-pub overflow_add-center-2 : goal.overflow_add-center-2
-overflow_add-center-2 c = search top_fits
-
-pub clamp-requires-3 : goal.clamp-requires-3
-clamp-requires-3 c = search (size_range, rules)
-
-pub overflow_sub-center-2 : goal.overflow_sub-center-2
-overflow_sub-center-2 c = search bottom_fits
-
-pub overflow_sub-shape-2 : goal.overflow_sub-shape-2
-overflow_sub-shape-2 c = search (margin_fits, rules)
-
-pub clamp-requires-4 : goal.clamp-requires-4
-clamp-requires-4 c = search (margin_range, rules)
 
 pub returns : goal.returns
 unfolding boundary_of

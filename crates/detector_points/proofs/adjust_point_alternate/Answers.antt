@@ -1,5 +1,5 @@
 -- `detector_points::adjust_point_alternate` meets its contract: its products are small.
-use native.Mathlib.Omega.{arith}
+use Rattle.std.proofs.Common.{arith}
 use Rattle.detector_points.specs.Orientation.{adjusted_point}
 use Rattle.detector_points.proofs.Cells.{column_fits, row_fits, shift_fits}
 use Rattle.detector_points.proofs.adjust_point_alternate.Goals as goal

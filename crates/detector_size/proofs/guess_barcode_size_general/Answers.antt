@@ -1,8 +1,5 @@
 -- `detector_size::guess_barcode_size_general` meets its contract: its callees' equations, put together.
-use Prim.Native.Nat.{ℕ, ◌≤◌}
-use native.Mathlib.Nat.{mul-le-mul}
-use native.Mathlib.Omega.{arith}
-use mathlib.Core.Path.{◌≡◌, ◌∙◌, ap}
+use Rattle.std.proofs.Common.{ℕ, ◌≤◌, mul-le-mul, arith, ◌≡◌, ◌∙◌, ap}
 use lib.Ieee.{Float, binary64, mul, to_unsigned}
 use Rattle.ieee.specs.Integral.{floor}
 use Rattle.detector_size.specs.declared.Size.{Size}

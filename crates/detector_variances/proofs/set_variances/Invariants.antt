@@ -1,10 +1,6 @@
 -- `detector_variances::set_variances` meets its contract. The invariant: the records passed have their variance, and the others are as they were.
-use Prim.Native.Nat.{◌-◌}
 use Rattle.detector_variances.proofs.Varying.{Varying}
 use Rattle.detector_variances.proofs.set_variances.Given as goal
 
 abbrev pub invariant-loop-i : goal.invariant-loop-i
 invariant-loop-i l = Varying l.count l.initial.records l.records l.i
-
-abbrev pub decreases-loop-i : goal.decreases-loop-i
-decreases-loop-i l = l.count - l.i
