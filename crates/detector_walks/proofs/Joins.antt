@@ -5,7 +5,7 @@ use native.Mathlib.Omega.{arith}
 use mathlib.Core.Bool.{Bool, true, false, cond, true≢false}
 use mathlib.Core.List.{List}
 use mathlib.Core.Logic.{inl, inr}
-use mathlib.Core.Path.{◌≡◌, refl, sym, ap, ap₂, subst, ◌∙◌}
+use mathlib.Core.Path.{◌≡◌, refl, sym, ap, subst, ◌∙◌}
 use lib.ListN.{length}
 use Rattle.reads.specs.Reads.{Reads, done, ◌>>=◌, value}
 use Rattle.reads.specs.Runs.{value_of, marks_of}
@@ -16,20 +16,9 @@ use Rattle.bit_matrix.specs.ShapeClauses.{Limits, Inside}
 use Rattle.sines.specs.declared.Angle.{Angle}
 use Rattle.rxing_result_point.specs.declared.PointU.{PointU}
 use Rattle.detector_walks.specs.Walks.{walk_point, white_point, left_from, right_from}
-use Rattle.detector_walks.specs.WalksClauses.{OfDegree, steps, white_back, steps_remaining}
+use Rattle.detector_walks.specs.WalksClauses.{OfDegree, steps, white_back, column, Taken, steps_remaining}
 use Rattle.detector_walks.specs.StepsLaws.{steps_right, steps_few}
 use Rattle.detector_walks.specs.WalksLaws.{white_at, next, from_step, walk_stops}
-
--- ---- tests that are the same of each column take the same steps
-pub same_steps : (test test' : ℕ → Reads Bool) (n x : ℕ) → ((i : ℕ) → i < n → test (x + i) ≡ test' (x + i)) → steps test n x ≡ steps test' n x
-unfolding steps
-same_steps test test' zero x same = refl
-same_steps test test' (suc n) x same =
-    let none : x + 0 ≡ x = omega arith in
-    let here : test x ≡ test' x = rw none at (same 0 (omega arith)) in
-    let later : (i : ℕ) → i < n → test (x + 1 + i) ≡ test' (x + 1 + i) =
-    λ i h. subst (λ (y : ℕ). test y ≡ test' y) (omega arith) (same (i + 1) (omega arith)) in
-    ap₂ (λ (p : Reads Bool) (q : Reads ℕ). p >>= λ (white : Bool). cond white q (done x)) here (same_steps test test' n (x + 1) later)
 
 pub right_steps : (shape : Shape) (center : PointU) (angle : Angle) (n x : ℕ)
     → steps (λ y. white_point shape (walk_point center angle y)) n x ≡ right_from shape center angle n x
@@ -94,6 +83,58 @@ module _ (words : List ℕ) (test : ℕ → Reads Bool) (n : ℕ) {marks₀ mark
   count_over h =
       let same : 0 + n ≡ n = omega arith in
       rw same at (steps_over words test n 0 stepping h)
+
+-- ---- the loop of n steps from column x on, to the left or to the right: i of them are taken
+module _ (left : Bool) (words : List ℕ) (shape : Shape) (center : PointU) (angle : Angle) (n x : ℕ) where
+  abbrev on_test : ℕ → Reads Bool
+  on_test y = white_point shape (walk_point center angle y)
+
+  pub record Going (marks₀ marks : List ℕ) (i : ℕ) : Type 0 where
+    pub few : i ≤ n
+    pub sized : length marks ≡ length words
+    pub back : left ≡ true → Stepping words (white_back shape center angle x) n 0 marks₀ marks i
+    pub on : left ≡ false → Stepping words on_test n x marks₀ marks i
+
+  pub going_start : {marks : List ℕ} → length marks ≡ length words → Going marks marks 0
+  going_start same = record {
+    few = omega arith;
+    sized = same;
+    back = λ _. steps_begin words (white_back shape center angle x) n 0 same;
+    on = λ _. steps_begin words on_test n x same;
+  }
+
+  module _ {marks₀ marks : List ℕ} {i : ℕ} (going : Going marks₀ marks i) where
+    module _ {white : Bool} {after : List ℕ} (more : i < n) (ran : Ran (white_point shape (walk_point center angle (column left x i))) words marks white after)
+      where
+        ran_back : left ≡ true → Ran (white_back shape center angle x i) words marks white after
+        ran_back e = rw e at ran
+
+        ran_on : left ≡ false → Ran (on_test (x + i)) words marks white after
+        ran_on e = rw e at ran
+
+        pub going_on : white ≡ true → length after ≡ length marks → Going marks₀ after (i + 1)
+        going_on e kept = record {
+          few = omega arith;
+          sized = kept ∙ going.sized;
+          back = λ f. count_on words (white_back shape center angle x) n (going.back f) more (ran_back f) e kept;
+          on = λ f. steps_on words on_test n x (going.on f) more (ran_on f) e kept;
+        }
+
+        pub going_stop : white ≡ false → Taken left shape center angle n x words marks₀ i after
+        going_stop e = record {
+          back = λ f. count_stop words (white_back shape center angle x) n (going.back f) more (ran_back f) e;
+          on = λ f.
+              subst (λ (p : Reads ℕ). Ran p words marks₀ (x + i) after) (right_steps shape center angle n x)
+              (steps_stop words on_test n x (going.on f) more (ran_on f) e);
+        }
+
+    pub going_over : n ≤ i → Taken left shape center angle n x words marks₀ n marks
+    going_over h = record {
+      back = λ f. count_over words (white_back shape center angle x) n (going.back f) h;
+      on = λ f.
+          subst (λ (p : Reads ℕ). Ran p words marks₀ (x + n) marks) (right_steps shape center angle n x)
+          (steps_over words on_test n x (going.on f) h);
+    }
 
 -- ---- steps joined to the walks
 module _ (words : List ℕ) (shape : Shape) (center : PointU) (angle : Angle) where

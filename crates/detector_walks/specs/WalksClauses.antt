@@ -1,16 +1,17 @@
 -- What the clauses of functions name. Assumes nothing.
-use Rattle.std.specs.Prelude.{ℕ, zero, suc, ◌+◌, ◌-◌, ◌^◌, ◌<◌, Bool, cond, List, ◌≡◌, length, get_or, Float}
+use Rattle.std.specs.Prelude.{ℕ, zero, suc, ◌+◌, ◌-◌, ◌^◌, ◌<◌, Bool, true, false, cond, List, ◌≡◌, length, get_or, Float}
 use Rattle.std.specs.Float.{binary32}
 use Rattle.std.specs.Float.Ieee.{add, mul, to_unsigned}
 use Rattle.ieee.specs.Sign.{abs}
 use Rattle.reads.specs.Reads.{Reads, done, ◌>>=◌}
+use Rattle.reads.specs.RunsClauses.{Ran}
 use Rattle.bit_matrix.specs.declared.Shape.{Shape}
 use Rattle.bit_matrix.specs.ShapeClauses.{Image, Inside}
 use Rattle.sines.specs.declared.Angle.{Angle}
 use Rattle.sines.specs.Sines.{angle_of}
 use Rattle.rxing_result_point.specs.declared.PointU.{PointU}
 use Rattle.rxing_result_point.specs.Points.{real, past}
-use Rattle.detector_walks.specs.Walks.{walk_point, white_point}
+use Rattle.detector_walks.specs.Walks.{walk_point, white_point, right_from}
 
 -- what a step about a centre is lent: an image, and a centre inside it
 pub record Lent (shape : Shape) (words marks : List ℕ) (center : PointU) : Type 0 where
@@ -40,6 +41,22 @@ module _ (test : ℕ → Reads Bool) where
 -- the test of the point i columns to the left of column x
 abbrev pub white_back : Shape → PointU → Angle → ℕ → ℕ → Reads Bool
 white_back shape center angle x i = white_point shape (walk_point center angle (x - i))
+
+-- the column i steps from column x on, to the left or to the right
+abbrev pub column : Bool → ℕ → ℕ → ℕ
+column left x i = cond left (x - i) (x + i)
+
+-- the lowest of the 32 columns from column x on, and where the column i steps on stands among them
+abbrev pub lowest : Bool → ℕ → ℕ
+lowest left x = cond left (x - 31) x
+
+abbrev pub place : Bool → ℕ → ℕ
+place left i = cond left (31 - i) i
+
+-- k of n steps from column x on are taken: as a count to the left, and as the column where they end to the right
+pub record Taken (left : Bool) (shape : Shape) (center : PointU) (angle : Angle) (n x : ℕ) (words marks : List ℕ) (k : ℕ) (marks' : List ℕ) : Type 0 where
+  pub back : left ≡ true → Ran (steps (white_back shape center angle x) n 0) words marks k marks'
+  pub on : left ≡ false → Ran (right_from shape center angle n x) words marks (x + k) marks'
 
 -- the steps that the walk to the right may still take from column x on
 abbrev pub steps_remaining : PointU → ℕ → ℕ

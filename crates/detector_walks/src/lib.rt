@@ -8,7 +8,7 @@ ghost use Rattle.bit_matrix.specs.ShapeClauses.{Image, Inside};
 ghost use Rattle.ieee.specs.Sign.{abs};
 ghost use Rattle.ieee.specs.BetweenLaws.{Between};
 ghost use Rattle.detector_walks.specs.Walks.{walk_point, white_pixel, white_point, left_from, right_from, walk, width_of, find_width_at_degree};
-ghost use Rattle.detector_walks.specs.WalksClauses.{OfDegree, Along, steps, white_back, steps_remaining, Lent};
+ghost use Rattle.detector_walks.specs.WalksClauses.{OfDegree, Along, column, lowest, place, Taken, steps_remaining, Lent};
 ghost use Rattle.detector_walks.specs.StepsLaws.{steps_right};
 
 use bit_matrix::Shape;
@@ -66,7 +66,8 @@ fn walk_point(center: PointU, angle: Angle, x: u32) -> Point
     rxing_result_point::turn(center, PointU { x, y }, angle)
 }
 
-// The column where the walk to the left from column `first` ends. Column 0 is looked at too, before the test that ends the walk there.
+// The column where the walk to the left from column `first` ends. Column 0 is looked at too, before the test that ends the walk there. A while: the end
+// is not a count.
 fn back(
     words: &[u64],
     marks: &mut [u64],
@@ -88,8 +89,16 @@ fn back(
     x
 }
 
-// How many of 16 steps to the left from column x the walk takes, one by one.
-fn step_back(
+// The column i steps from column x on.
+fn column<const LEFT: bool>(x: u32, i: u32) -> u32
+    requires { (LEFT ≡ true → i ≤ x) × (x + i < 2 ^ 32) }
+    ensures { result ≡ column LEFT x i }
+{
+    if LEFT { x - i } else { x + i }
+}
+
+// How many of 16 steps from column x the walk takes, one by one.
+fn step<const LEFT: bool>(
     words: &[u64],
     marks: &mut [u64],
     shape: Shape,
@@ -97,41 +106,16 @@ fn step_back(
     angle: Angle,
     x: u32,
 ) -> u32
-    requires { Image shape words.now marks.old × Inside shape center.x center.y × (16 ≤ x) × (x < 2 ^ 11) × OfDegree angle }
-    ensures { Ran (steps (white_back shape center angle x) 16 0) words.now marks.old result marks.new }
+    requires { Image shape words.now marks.old × Inside shape center.x center.y × OfDegree angle × (LEFT ≡ true → 16 ≤ x) × (x ≤ 2 ^ 12) }
+    ensures { Taken LEFT shape center angle 16 x words.now marks.old result marks.new }
 {
-    let mut i = 0u32;
-    while i < 16 {
-        if goes_on(words, marks, shape, center, angle, x - i) {
-            i += 1;
-        } else {
+    for i in 0..16 {
+        let at = column::<LEFT>(x, i);
+        if !goes_on(words, marks, shape, center, angle, at) {
             return i;
         }
     }
     16
-}
-
-// The column where the walk to the right from column x ends within 16 steps, taken one by one, or the column after them.
-fn step_on(
-    words: &[u64],
-    marks: &mut [u64],
-    shape: Shape,
-    center: PointU,
-    angle: Angle,
-    x: u32,
-) -> u32
-    requires { Image shape words.now marks.old × Inside shape center.x center.y × (x ≤ 2 ^ 12) × OfDegree angle }
-    ensures { Ran (right_from shape center angle 16 x) words.now marks.old result marks.new }
-{
-    let mut i = 0u32;
-    while i < 16 {
-        if goes_on(words, marks, shape, center, angle, x + i) {
-            i += 1;
-        } else {
-            return x + i;
-        }
-    }
-    x + 16
 }
 
 // Where the points of 32 columns from x on lie along one axis: whole columns with the cosine and the centre's column as its place, whole rows with the
@@ -144,42 +128,31 @@ fn along(factor: f32, center_x: u32, place: u32, x: u32) -> [u32; 32]
     let cx = center_x as f32;
     let p = place as f32;
     let mut cells = [0u32; 32];
-    let mut i = 0usize;
-    while i < 32 {
+    for i in 0..32 {
         let u = ((x + i as u32) % 0x20_0000) as f32 - cx;
         cells[i] = ieee::abs_small_f32_to_u32(factor * u + p);
-        i += 1;
     }
     cells
 }
 
-// The column where the walk to the right from column x ends within 32 steps, or the column after them.
-fn stride_on(
-    words: &[u64],
-    marks: &mut [u64],
-    shape: Shape,
-    center: PointU,
-    angle: Angle,
-    x: u32,
-) -> u32
-    requires { Image shape words.now marks.old × Inside shape center.x center.y × (x < 2 ^ 20 + 2 ^ 12) × OfDegree angle }
-    ensures { Ran (right_from shape center angle 32 x) words.now marks.old result marks.new }
+// The lowest of the 32 columns from column x on.
+fn lowest<const LEFT: bool>(x: u32) -> u32
+    requires { LEFT ≡ true → 32 ≤ x }
+    ensures { result ≡ lowest LEFT x }
 {
-    let columns = along(angle.cos, center.x, center.x, x);
-    let rows = along(angle.sin, center.x, center.y, x);
-    let mut i = 0usize;
-    while i < 32 {
-        if is_white(words, marks, shape, columns[i], rows[i]) {
-            i += 1;
-        } else {
-            return x + i as u32;
-        }
-    }
-    x + 32
+    if LEFT { x - 31 } else { x }
 }
 
-// How many of 32 steps to the left from column x the walk takes.
-fn stride_back(
+// Where the column i steps on stands among them.
+fn place<const LEFT: bool>(i: usize) -> usize
+    requires { i < 32 }
+    ensures { (result ≡ place LEFT i) × (result < 32) }
+{
+    if LEFT { 31 - i } else { i }
+}
+
+// How many of 32 steps from column x the walk takes.
+fn stride<const LEFT: bool>(
     words: &[u64],
     marks: &mut [u64],
     shape: Shape,
@@ -187,23 +160,23 @@ fn stride_back(
     angle: Angle,
     x: u32,
 ) -> u32
-    requires { Image shape words.now marks.old × Inside shape center.x center.y × (32 ≤ x) × (x < 2 ^ 11) × OfDegree angle }
-    ensures { Ran (steps (white_back shape center angle x) 32 0) words.now marks.old result marks.new }
+    requires { Image shape words.now marks.old × Inside shape center.x center.y × OfDegree angle × (LEFT ≡ true → 32 ≤ x) × (x < 2 ^ 20 + 2 ^ 12) }
+    ensures { Taken LEFT shape center angle 32 x words.now marks.old result marks.new }
 {
-    let columns = along(angle.cos, center.x, center.x, x - 31);
-    let rows = along(angle.sin, center.x, center.y, x - 31);
-    let mut i = 0usize;
-    while i < 32 {
-        if is_white(words, marks, shape, columns[31 - i], rows[31 - i]) {
-            i += 1;
-        } else {
+    let first = lowest::<LEFT>(x);
+    let columns = along(angle.cos, center.x, center.x, first);
+    let rows = along(angle.sin, center.x, center.y, first);
+    for i in 0..32 {
+        let k = place::<LEFT>(i);
+        if !is_white(words, marks, shape, columns[k], rows[k]) {
             return i as u32;
         }
     }
     32
 }
 
-// The column where the walk to the left ends, by strides from a column on, and one by one where there is no room for a stride.
+// The column where the walk to the left ends, by strides from a column on, and one by one where there is no room for a stride. Beside `strides`, not one
+// function with it: that would test for room on both sides, and have an end that the right side never reaches.
 fn strides_back(
     words: &[u64],
     marks: &mut [u64],
@@ -217,7 +190,7 @@ fn strides_back(
 {
     let mut x = first;
     while x >= 32 {
-        let taken = stride_back(words, marks, shape, center, angle, x);
+        let taken = stride::<true>(words, marks, shape, center, angle, x);
         x -= taken;
         if taken < 32 {
             return x;
@@ -235,7 +208,7 @@ fn walk_left(words: &[u64], marks: &mut [u64], shape: Shape, center: PointU, ang
     if x < 16 {
         return back(words, marks, shape, center, angle, x);
     }
-    let taken = step_back(words, marks, shape, center, angle, x);
+    let taken = step::<true>(words, marks, shape, center, angle, x);
     if taken < 16 {
         return x - taken;
     }
@@ -256,11 +229,11 @@ fn strides(
 {
     let mut x = first;
     loop {
-        let end = stride_on(words, marks, shape, center, angle, x);
-        if end < x + 32 {
-            return end;
+        let taken = stride::<false>(words, marks, shape, center, angle, x);
+        x += taken;
+        if taken < 32 {
+            return x;
         }
-        x = end;
     }
 }
 
@@ -270,11 +243,11 @@ fn walk_right(words: &[u64], marks: &mut [u64], shape: Shape, center: PointU, an
     ensures { Ran (walk shape center angle false) words.now marks.old result marks.new }
 {
     let first = center.x + 1;
-    let x = step_on(words, marks, shape, center, angle, first);
-    if x < first + 16 {
-        return x;
+    let taken = step::<false>(words, marks, shape, center, angle, first);
+    if taken < 16 {
+        return first + taken;
     }
-    strides(words, marks, shape, center, angle, x)
+    strides(words, marks, shape, center, angle, first + taken)
 }
 
 // The width between the columns where the walks end.

@@ -1,11 +1,6 @@
--- `detector_walks::along` meets its contract: the numbers are listed one after another. The remainder leaves each column as it is. The
--- measure is the numbers left.
-use Prim.Native.Nat.{◌-◌}
+-- `detector_walks::along` meets its contract: the numbers are listed one after another. The remainder leaves each column as it is.
 use Rattle.detector_walks.specs.WalksClauses.{Along}
 use Rattle.detector_walks.proofs.along.Given as goal
 
 abbrev pub invariant-loop-i : goal.invariant-loop-i
 invariant-loop-i l = Along l.factor l.center_x l.place l.x l.i l.cells
-
-abbrev pub decreases-loop-i : goal.decreases-loop-i
-decreases-loop-i l = 32 - l.i

@@ -1,8 +1,9 @@
 -- `detector_walks::strides` meets its contract. The invariant is `Walking`: from the present column, what is left of the definition ends as the whole does.
 -- The measure is the columns up to the one where the walk has ended at the latest, past which no stride ends.
 use Prim.Native.Nat.{ℕ, ◌+◌, ◌-◌, ◌^◌, ◌≤◌, ◌<◌}
+use mathlib.Core.Bool.{false}
 use mathlib.Core.List.{List}
-use mathlib.Core.Path.{◌≡◌, ◌∙◌}
+use mathlib.Core.Path.{◌≡◌, refl, ◌∙◌}
 use native.Mathlib.Omega.{arith}
 use lib.ListN.{length}
 use Rattle.reads.specs.Reads.{Reads}
@@ -13,7 +14,7 @@ use Rattle.bit_matrix.specs.ShapeClauses.{Limits, Inside}
 use Rattle.sines.specs.declared.Angle.{Angle}
 use Rattle.rxing_result_point.specs.declared.PointU.{PointU}
 use Rattle.detector_walks.specs.Walks.{right_from}
-use Rattle.detector_walks.specs.WalksClauses.{OfDegree, steps_remaining}
+use Rattle.detector_walks.specs.WalksClauses.{OfDegree, Taken, steps_remaining}
 use Rattle.detector_walks.specs.StepsLaws.{steps_right, steps_few}
 use Rattle.detector_walks.proofs.Joins.{kept_near, stopped, resumed}
 use Rattle.detector_walks.proofs.strides.Given as goal
@@ -38,26 +39,33 @@ module _ (words : List ℕ) (shape : Shape) (center : PointU) (angle : Angle) wh
     pub begins : {marks : List ℕ} {first : ℕ} → length marks ≡ length words → first ≤ limit → Walking marks first marks first
     begins same h = record { sized = same; low = low_near h; near = h; resumes = resumes_start }
 
-    module _ {marks₀ marks after : List ℕ} {first x y : ℕ} (walking : Walking marks₀ first marks x)
-        (ran : Ran (right_from shape center angle 32 x) words marks y after) where
-      pub stops : y < x + 32 → Ran (rest first) words marks₀ y after
-      stops less = stopped words shape center angle limits inside of 32 x walking.near (omega arith) walking.resumes ran less
+    module _ {marks₀ marks after : List ℕ} {first x k : ℕ} (walking : Walking marks₀ first marks x)
+        (taken : Taken false shape center angle 32 x words marks k after) where
+      ran : Ran (right_from shape center angle 32 x) words marks (x + k) after
+      ran = taken.on refl
 
-      pub onward : x + 32 ≤ y → length after ≡ length marks → Walking marks₀ first after y
-      onward more kept =
-          let here = kept_near words shape center angle limits inside of 32 x walking.near ran in
-          record {
-            sized = kept ∙ walking.sized;
-            low = low_near here;
-            near = here;
-            resumes = resumed words shape center angle limits inside of 32 x walking.near (omega arith) walking.resumes ran more;
-          }
+      pub stops : k < 32 → Ran (rest first) words marks₀ (x + k) after
+      stops less = stopped words shape center angle limits inside of 32 x walking.near (omega arith) walking.resumes ran (omega arith)
 
-      pub fewer : x + 32 ≤ y → limit - y < limit - x
-      fewer more = omega (arith, kept_near words shape center angle limits inside of 32 x walking.near ran)
+      pub near : x + k ≤ limit
+      near = kept_near words shape center angle limits inside of 32 x walking.near ran
 
-abbrev pub invariant-loop-x : goal.invariant-loop-x
-invariant-loop-x l = Walking l.words l.shape l.center l.angle l.initial.marks l.first l.marks l.x
+      pub fits : x + k < 2 ^ 32
+      fits = omega (arith, low_near near)
 
-abbrev pub decreases-loop-x : goal.decreases-loop-x
-decreases-loop-x l = limit l.words l.shape l.center l.angle - l.x
+      pub onward : 32 ≤ k → length after ≡ length marks → Walking marks₀ first after (x + k)
+      onward more kept = record {
+        sized = kept ∙ walking.sized;
+        low = low_near near;
+        near = near;
+        resumes = resumed words shape center angle limits inside of 32 x walking.near (omega arith) walking.resumes ran (omega arith);
+      }
+
+      pub fewer : 32 ≤ k → limit - (x + k) < limit - x
+      fewer more = omega (arith, near)
+
+abbrev pub invariant-loop-shape : goal.invariant-loop-shape
+invariant-loop-shape l = Walking l.words l.shape l.center l.angle l.initial.marks l.first l.marks l.x
+
+abbrev pub decreases-loop-shape : goal.decreases-loop-shape
+decreases-loop-shape l = limit l.words l.shape l.center l.angle - l.x

@@ -2,7 +2,8 @@
 -- does. The measure is the column.
 use Prim.Native.Nat.{ℕ, ◌-◌, ◌^◌, ◌≤◌, ◌<◌}
 use mathlib.Core.List.{List}
-use mathlib.Core.Path.{◌≡◌, ◌∙◌}
+use mathlib.Core.Bool.{true}
+use mathlib.Core.Path.{◌≡◌, refl, ◌∙◌}
 use native.Mathlib.Omega.{arith}
 use lib.ListN.{length}
 use Rattle.reads.specs.RunsClauses.{Ran, Resumes}
@@ -11,7 +12,7 @@ use Rattle.bit_matrix.specs.declared.Shape.{Shape}
 use Rattle.sines.specs.declared.Angle.{Angle}
 use Rattle.rxing_result_point.specs.declared.PointU.{PointU}
 use Rattle.detector_walks.specs.Walks.{left_from}
-use Rattle.detector_walks.specs.WalksClauses.{steps, white_back}
+use Rattle.detector_walks.specs.WalksClauses.{steps, white_back, Taken}
 use Rattle.detector_walks.proofs.Joins.{stopped_back, resumed_back, taken_most}
 use Rattle.detector_walks.proofs.strides_back.Given as goal
 
@@ -25,7 +26,10 @@ module _ (words : List ℕ) (shape : Shape) (center : PointU) (angle : Angle) wh
   begins few same = record { sized = same; low = few; resumes = resumes_start }
 
   module _ {first : ℕ} {marks₀ marks after : List ℕ} {x k : ℕ} (walking : Walking first marks₀ marks x) where
-    module _ (room : 32 ≤ x) (ran : Ran (steps (white_back shape center angle x) 32 0) words marks k after) where
+    module _ (room : 32 ≤ x) (taken : Taken true shape center angle 32 x words marks k after) where
+      ran : Ran (steps (white_back shape center angle x) 32 0) words marks k after
+      ran = taken.back refl
+
       pub enough : k ≤ x
       enough = omega (arith, taken_most words shape center angle 32 x room ran)
 

@@ -2,6 +2,7 @@
 use Prim.Native.Nat.{ℕ, ◌-◌, ◌^◌, ◌≤◌, ◌<◌}
 use mathlib.Core.Bool.{true}
 use mathlib.Core.List.{List}
+use mathlib.Core.Path.{refl}
 use native.Mathlib.Omega.{arith}
 use borrow.Author.Rules.{rules}
 use Rattle.reads.specs.RunsClauses.{Ran}
@@ -11,7 +12,7 @@ use Rattle.bit_matrix.specs.ShapeClauses.{Limits, Inside}
 use Rattle.sines.specs.declared.Angle.{Angle}
 use Rattle.rxing_result_point.specs.declared.PointU.{PointU}
 use Rattle.detector_walks.specs.Walks.{left_from, walk}
-use Rattle.detector_walks.specs.WalksClauses.{steps, white_back}
+use Rattle.detector_walks.specs.WalksClauses.{steps, white_back, Taken}
 use Rattle.detector_walks.proofs.Looks.{left}
 use Rattle.detector_walks.proofs.Joins.{stopped_back, resumed_back, taken_most}
 use Rattle.detector_walks.proofs.walk_left.Goals as goal
@@ -24,7 +25,10 @@ module _ {words : List ℕ} (shape : Shape) (center : PointU) (angle : Angle) {m
   unfolding walk
   whole ran = ran
 
-  module _ (room : 16 ≤ center.x) (ran : Ran (steps (white_back shape center angle center.x) 16 0) words marks k after) where
+  module _ (room : 16 ≤ center.x) (taken : Taken true shape center angle 16 center.x words marks k after) where
+    ran : Ran (steps (white_back shape center angle center.x) 16 0) words marks k after
+    ran = taken.back refl
+
     enough : k ≤ center.x
     enough = omega (arith, taken_most words shape center angle 16 center.x room ran)
 
@@ -43,8 +47,8 @@ back-requires c = search (left, rules)
 pub returns-then-x-lt16 : goal.returns-then-x-lt16
 returns-then-x-lt16 c = search (whole, rules)
 
-pub step_back-taken-requires : goal.step_back-taken-requires
-step_back-taken-requires c = search (left, rules)
+pub step-taken-requires : goal.step-taken-requires
+step-taken-requires c = search (left, rules)
 
 pub overflow_sub-result : goal.overflow_sub-result
 overflow_sub-result c = search (enough, rules)

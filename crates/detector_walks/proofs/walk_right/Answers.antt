@@ -2,7 +2,7 @@
 use Prim.Native.Nat.{ℕ, ◌+◌, ◌^◌, ◌≤◌, ◌<◌}
 use mathlib.Core.Bool.{false}
 use mathlib.Core.List.{List}
-use mathlib.Core.Path.{◌≡◌}
+use mathlib.Core.Path.{◌≡◌, refl}
 use native.Mathlib.Omega.{arith}
 use borrow.Author.Rules.{rules}
 use Rattle.reads.specs.RunsClauses.{Ran, Resumes}
@@ -13,13 +13,16 @@ use Rattle.sines.specs.declared.Angle.{Angle}
 use Rattle.sines.specs.Laws.{scaled}
 use Rattle.rxing_result_point.specs.declared.PointU.{PointU}
 use Rattle.detector_walks.specs.Walks.{right_from, walk}
-use Rattle.detector_walks.specs.WalksClauses.{OfDegree, steps_remaining}
-use Rattle.detector_walks.specs.StepsLaws.{steps_right, steps_some}
+use Rattle.detector_walks.specs.WalksClauses.{OfDegree, Taken, steps_remaining}
+use Rattle.detector_walks.specs.StepsLaws.{steps_right, steps_some, steps_few}
 use Rattle.detector_walks.proofs.Joins.{kept_near, stopped, resumed}
 use Rattle.detector_walks.proofs.walk_right.Goals as goal
 
 module _ {words : List ℕ} {shape : Shape} {center : PointU} {angle : Angle} (limits : Limits shape) (inside : Inside shape center.x center.y)
-    (of : OfDegree angle) {marks after : List ℕ} {y : ℕ} (ran : Ran (right_from shape center angle 16 (center.x + 1)) words marks y after) where
+    (of : OfDegree angle) {marks after : List ℕ} {k : ℕ} (taken : Taken false shape center angle 16 (center.x + 1) words marks k after) where
+  ran : Ran (right_from shape center angle 16 (center.x + 1)) words marks (center.x + 1 + k) after
+  ran = taken.on refl
+
   begun : center.x + 1 ≤ center.x + steps_right shape angle
   begun = omega (arith, steps_some shape (scaled angle.sin))
 
@@ -29,18 +32,29 @@ module _ {words : List ℕ} {shape : Shape} {center : PointU} {angle : Angle} (l
       let all : steps_remaining center (center.x + 1) ≡ 2 ^ 20 = omega arith in
       rw all resumes_start
 
-  near : y ≤ center.x + steps_right shape angle
+  near : center.x + 1 + k ≤ center.x + steps_right shape angle
   near = kept_near words shape center angle limits inside of 16 (center.x + 1) begun ran
 
-  ends_soon : y < center.x + 1 + 16 → Ran (walk shape center angle false) words marks y after
-  ends_soon less = stopped words shape center angle limits inside of 16 (center.x + 1) begun (omega arith) starts ran less
+  fits : center.x + 1 + k < 2 ^ 32
+  fits = omega (arith, near, steps_few of limits, limits.width_most, inside.column)
 
-  ends_later : {last : List ℕ} {r : ℕ} → center.x + 1 + 16 ≤ y → Ran (right_from shape center angle (steps_remaining center y) y) words after r last
+  ends_soon : k < 16 → Ran (walk shape center angle false) words marks (center.x + 1 + k) after
+  ends_soon less = stopped words shape center angle limits inside of 16 (center.x + 1) begun (omega arith) starts ran (omega arith)
+
+  ends_later : {last : List ℕ} {r : ℕ} → 16 ≤ k
+      → Ran (right_from shape center angle (steps_remaining center (center.x + 1 + k)) (center.x + 1 + k)) words after r last
       → Ran (walk shape center angle false) words marks r last
-  ends_later more strides = resumes_end strides (resumed words shape center angle limits inside of 16 (center.x + 1) begun (omega arith) starts ran more)
+  ends_later more strides =
+      resumes_end strides (resumed words shape center angle limits inside of 16 (center.x + 1) begun (omega arith) starts ran (omega arith))
 
-pub returns-then-x-first : goal.returns-then-x-first
-returns-then-x-first c = search ends_soon
+pub overflow_add-result : goal.overflow_add-result
+overflow_add-result c = search fits
+
+pub overflow_add-first-2 : goal.overflow_add-first-2
+overflow_add-first-2 c = search fits
+
+pub returns-then-taken-lt16 : goal.returns-then-taken-lt16
+returns-then-taken-lt16 c = search ends_soon
 
 pub strides-requires : goal.strides-requires
 strides-requires c = search (near, rules)
