@@ -4,7 +4,7 @@
 ghost use Rattle.std.specs.Prelude.{◌≡◌, ◌+◌, ◌^◌, ◌≤◌, ◌<◌, get_or};
 ghost use Rattle.reads.specs.RunsClauses.{Ran};
 ghost use Rattle.bit_matrix.specs.ShapeClauses.{Image};
-ghost use Rattle.detector_columns.specs.Columns.{pointer_after, row_after, rows_left, column_vector, potential_bullseye_array};
+ghost use Rattle.detector_columns.specs.Columns.{pointer_after, row_after, column_vector, potential_bullseye_array};
 ghost use Rattle.detector_columns.specs.ColumnsClauses.{try_column, verify_bullseye_vertical};
 
 use bit_matrix::Shape;
@@ -27,18 +27,6 @@ impl Direction {
             Direction::Down => row - 1,
         }
     }
-
-    // How many rows are looked at from a row on: up to the last, or down to row 1. Row 0 is never looked at.
-    fn rows_left(self, height: u32, row: u32) -> u32
-        ensures { result ≡ rows_left self height row }
-    {
-        match self {
-            Direction::Up if row == 0 => 0,
-            Direction::Up => height.saturating_sub(row),
-            Direction::Down if row < height => row,
-            Direction::Down => 0,
-        }
-    }
 }
 
 // The run that a pixel belongs to: the present one, or the next where the colour changes.
@@ -53,7 +41,7 @@ fn next_pointer(pointer: usize, local_bit: bool, last_color: bool) -> usize
     }
 }
 
-// Six runs of one colour each, white first, along a column from a row on.
+// Six runs of one colour each, white first, along a column from a row on. Row 0 is never looked at.
 pub fn get_column_vector(
     words: &[u64],
     marks: &mut [u64],
@@ -69,7 +57,8 @@ pub fn get_column_vector(
     let mut row = start_row;
     let mut last_color = false;
     let mut pointer = 0;
-    'rows: for _ in 0..direction.rows_left(shape.height, start_row) {
+    // A while: a count of the rows, beside the row, is one number more in the loop, and slower.
+    while row > 0 && row < shape.height {
         let local_bit = bit_matrix::get(words, marks, shape, column, row);
         pointer = next_pointer(pointer, local_bit, last_color);
         if pointer > 5 {

@@ -1,6 +1,6 @@
 -- `detector_columns::get_column_vector` meets its contract. The invariant is `Looking`: from the present row, what is left of the definition ends as the
--- whole does, and a run has room for the rows left.
-use Rattle.std.proofs.Common.{ℕ, ◌+◌, ◌-◌, ◌≤◌, ◌≡◌, Bool, List, length}
+-- whole does, and a run has room for the rows left. The measure is the rows left.
+use Rattle.std.proofs.Common.{ℕ, ◌+◌, ◌≤◌, ◌≡◌, Bool, List, length}
 use Rattle.reads.specs.RunsClauses.{Resumes}
 use Rattle.bit_matrix.specs.declared.Shape.{Shape}
 use Rattle.bit_matrix.specs.ShapeClauses.{Image}
@@ -9,17 +9,20 @@ use Rattle.detector_columns.specs.declared.Direction.{Direction}
 use Rattle.detector_columns.specs.Columns.{rows_left, vector_from, column_vector}
 use Rattle.detector_columns.proofs.get_column_vector.Given as goal
 
--- with n rows left
+-- ---- the invariant, and a turn and the ends of the walk against the definition
 pub record Looking (words marks₀ : List ℕ) (shape : Shape) (column start : ℕ) (direction : Direction)
-    (marks buckets : List ℕ) (row : ℕ) (last : Bool) (pointer n : ℕ) : Type 0 where
+    (marks buckets : List ℕ) (row : ℕ) (last : Bool) (pointer : ℕ) : Type 0 where
   pub image : Image shape words marks
   pub six : length buckets ≡ 6
   pub within : pointer ≤ 5
-  pub left : rows_left direction shape.height row ≡ n
-  pub room : (k : ℕ) → at buckets k + n ≤ shape.height
-  pub resumes : Resumes words (vector_from shape column direction n row last pointer buckets) marks
+  pub room : (k : ℕ) → at buckets k + rows_left direction shape.height row ≤ shape.height
+  pub resumes : Resumes words
+      (vector_from shape column direction (rows_left direction shape.height row) row last pointer buckets) marks
       (column_vector shape column start direction) marks₀
 
-abbrev pub invariant-rows : goal.invariant-rows
-invariant-rows l =
-    Looking l.words l.initial.marks l.shape l.column l.start_row l.direction l.marks l.buckets l.row l.last_color l.pointer (l.end - l.counter)
+abbrev pub invariant-loop-row : goal.invariant-loop-row
+invariant-loop-row l =
+    Looking l.words l.initial.marks l.shape l.column l.start_row l.direction l.marks l.buckets l.row l.last_color l.pointer
+
+abbrev pub decreases-loop-row : goal.decreases-loop-row
+decreases-loop-row l = rows_left l.direction l.shape.height l.row
