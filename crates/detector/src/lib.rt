@@ -15,7 +15,7 @@ use detector_verdict::Counts;
 
 // What an entry reports: the answer, the sweep's candidates, those kept, and how many bits are marked.
 #[repr(C)]
-#[derive(Clone, Copy)]
+#[derive(Clone, Copy, Debug, PartialEq, Eq)]
 pub struct Report {
     pub answer: u32,
     pub found: u32,

@@ -11,7 +11,7 @@ le64 bytes at = le32 bytes at + 4294967296 * le32 bytes (at + 4)
 
 -- the image was accepted and searched
 abbrev pub accepted : Vector → Bool
-accepted v = v.answer == 0 || v.answer == 7 || v.answer == 8 || v.answer == 9
+accepted v = v.report.answer == 0 || v.report.answer == 7 || v.report.answer == 8 || v.report.answer == 9
 
 -- after the name, the option, the lengths and the report comes the file, padded to a multiple of 8 bytes
 abbrev pub records_at : Vector → ℕ
@@ -19,7 +19,7 @@ records_at v = 64 + (v.file + 7) / 8 * 8
 
 -- then the kept records, and the marks, of an accepted image
 unfoldable pub kept_words : Vector → ℕ
-kept_words v = cond (accepted v) (40 * v.kept) 0
+kept_words v = cond (accepted v) (40 * v.report.kept) 0
 
 abbrev pub marks_at : Vector → ℕ
 marks_at v = records_at v + 4 * kept_words v

@@ -11,8 +11,8 @@ ghost use Rattle.replay.specs.Pack.{size_of};
 
 use crate::lent::{fill_marks, fill_records, fill_words, same_marks, same_records, same_words};
 use crate::pack::{
-    Vector, byte, cleared_words, is_accepted, kept_words, mark_words, marks_at, records_at,
-    size_of, vector_at,
+    Vector, cleared_words, is_accepted, kept_words, mark_words, marks_at, records_at, size_of,
+    vector_at,
 };
 use detector::Report;
 use std::io;
@@ -23,13 +23,6 @@ struct Counts {
     vectors: u64,
     wrong: u64,
     whole: bool,
-}
-
-fn same_report(report: Report, vector: Vector) -> bool {
-    report.answer == vector.answer
-        && report.found == vector.found
-        && report.kept == vector.kept
-        && report.marked == vector.marked
 }
 
 // Whether a report and the buffers after a search are as the vector at `at` says.
@@ -46,23 +39,12 @@ fn agrees(
 {
     let start = at + 64;
     let end = start + vector.file as usize;
-    if !same_report(report, vector) {
-        return false;
-    }
-    if !same_words(words, &pack[start..end], is_accepted(vector)) {
-        return false;
-    }
     let from = at + records_at(vector);
-    if !same_records(
-        records,
-        pack,
-        from,
-        kept_words(vector),
-        cleared_words(vector),
-    ) {
-        return false;
-    }
-    same_marks(marks, pack, at + marks_at(vector), mark_words(vector))
+    let (kept, cleared) = (kept_words(vector), cleared_words(vector));
+    report == vector.report
+        && same_words(words, &pack[start..end], is_accepted(vector))
+        && same_records(records, pack, from, kept, cleared)
+        && same_marks(marks, pack, at + marks_at(vector), mark_words(vector))
 }
 
 // The search of a file in buffers that hold the pattern.
@@ -103,13 +85,7 @@ fn is_right(pack: &[u8], at: usize, vector: Vector) -> bool
     let words_len = vector.words as usize;
     let records_len = vector.records as usize;
     let marks_len = vector.marks as usize;
-    if 8000 < words_len {
-        return false;
-    }
-    if 80000 < records_len {
-        return false;
-    }
-    if 8000 < marks_len {
+    if 8000 < words_len || 80000 < records_len || 8000 < marks_len {
         return false;
     }
     let mut words = [0u64; 8000];
@@ -129,12 +105,10 @@ fn is_right(pack: &[u8], at: usize, vector: Vector) -> bool
 fn print_wrong(rt: &impl Print, pack: &[u8], at: usize) -> io::Result<()>
     requires { at + 28 ≤ length pack.now }
 {
-    let mut end = at;
-    while end < at + 28 && byte(pack, end) != 0 {
-        end += 1;
-    }
+    let name = &pack[at..at + 28];
+    let end = name.iter().position(|byte| *byte == 0).unwrap_or(28);
     rt.write_all(b"wrong: ")?;
-    rt.write_all(&pack[at..end])?;
+    rt.write_all(&name[..end])?;
     rt.write_all(b"\n")
 }
 
@@ -142,6 +116,7 @@ fn replay(rt: &impl Print, pack: &[u8]) -> io::Result<Counts> {
     let mut vectors = 0u64;
     let mut wrong = 0u64;
     let mut at = 0usize;
+    // A while: each vector has a size of its own.
     while 64 <= pack.len() - at {
         let vector = vector_at(pack, at);
         let size = size_of(vector);
@@ -152,15 +127,12 @@ fn replay(rt: &impl Print, pack: &[u8]) -> io::Result<Counts> {
                 whole: false,
             });
         }
-        let right = is_right(pack, at, vector);
-        if !right {
+        if !is_right(pack, at, vector) {
             print_wrong(rt, pack, at)?;
+            wrong += 1;
         }
         at += size;
         vectors += 1;
-        if !right {
-            wrong += 1;
-        }
     }
     Ok(Counts {
         vectors,

@@ -1,6 +1,8 @@
 // The layout of a pack of vectors.
-ghost use Rattle.std.specs.Prelude.{◌≡◌, ◌+◌, ◌*◌, ◌^◌, ◌<◌, ◌≤◌, length, slice_index};
+ghost use Rattle.std.specs.Prelude.{cond, ◌≡◌, ◌+◌, ◌*◌, ◌^◌, ◌<◌, ◌≤◌, length, slice_index};
 ghost use Rattle.replay.specs.Pack.{le32, le64, accepted, records_at, kept_words, cleared_words, marks_at, mark_words, size_of};
+
+use detector::Report;
 
 // What a vector says: whether the ellipse check is on, the lengths of the lent words, records and marks and of the file, and the report.
 #[derive(Clone, Copy)]
@@ -10,17 +12,14 @@ pub struct Vector {
     pub records: u32,
     pub marks: u32,
     pub file: u32,
-    pub answer: u32,
-    pub found: u32,
-    pub kept: u32,
-    pub marked: u32,
+    pub report: Report,
 }
 
 // Byte i, or 0 past the end.
 pub fn byte(bytes: &[u8], i: usize) -> u64
     ensures { (result ≡ slice_index bytes.now i) × (result < 256) }
 {
-    if i < bytes.len() { bytes[i] as u64 } else { 0 }
+    bytes.get(i).map_or(0, |byte| u64::from(*byte))
 }
 
 // Four bytes as one number, the first byte lowest.
@@ -28,8 +27,7 @@ pub fn u32_at(pack: &[u8], at: usize) -> u32
     requires { at + 4 ≤ length pack.now }
     ensures { result ≡ le32 pack.now at }
 {
-    (byte(pack, at)
-        + 256 * (byte(pack, at + 1) + 256 * (byte(pack, at + 2) + 256 * byte(pack, at + 3)))) as u32
+    u32::from_le_bytes(*pack[at..].first_chunk().unwrap())
 }
 
 // Eight bytes, likewise.
@@ -37,7 +35,7 @@ pub fn u64_at(pack: &[u8], at: usize) -> u64
     requires { at + 8 ≤ length pack.now }
     ensures { result ≡ le64 pack.now at }
 {
-    u32_at(pack, at) as u64 + 4294967296 * (u32_at(pack, at + 4) as u64)
+    u64::from_le_bytes(*pack[at..].first_chunk().unwrap())
 }
 
 // The vector at `at`, after its name.
@@ -50,10 +48,12 @@ pub fn vector_at(pack: &[u8], at: usize) -> Vector
         records: u32_at(pack, at + 36),
         marks: u32_at(pack, at + 40),
         file: u32_at(pack, at + 44),
-        answer: u32_at(pack, at + 48),
-        found: u32_at(pack, at + 52),
-        kept: u32_at(pack, at + 56),
-        marked: u32_at(pack, at + 60),
+        report: Report {
+            answer: u32_at(pack, at + 48),
+            found: u32_at(pack, at + 52),
+            kept: u32_at(pack, at + 56),
+            marked: u32_at(pack, at + 60),
+        },
     }
 }
 
@@ -61,19 +61,14 @@ pub fn vector_at(pack: &[u8], at: usize) -> Vector
 pub fn is_accepted(vector: Vector) -> bool
     ensures { result ≡ accepted vector }
 {
-    if vector.answer == 0 {
-        return true;
-    }
-    if vector.answer == 7 {
-        return true;
-    }
-    if vector.answer == 8 {
-        return true;
-    }
-    if vector.answer == 9 {
-        return true;
-    }
-    false
+    matches!(vector.report.answer, 0 | 7 | 8 | 9)
+}
+
+// So many words of an accepted image, none of another.
+fn if_accepted(vector: Vector, words: usize) -> usize
+    ensures { (result ≡ cond (accepted vector) words 0) × (result ≤ words) }
+{
+    if is_accepted(vector) { words } else { 0 }
 }
 
 // Where the kept records begin, counted from the vector's start.
@@ -87,11 +82,7 @@ pub fn records_at(vector: Vector) -> usize
 pub fn kept_words(vector: Vector) -> usize
     ensures { (result ≡ kept_words vector) × (result < 40 * 2 ^ 32) }
 {
-    if is_accepted(vector) {
-        40 * vector.kept as usize
-    } else {
-        0
-    }
+    if_accepted(vector, 40 * vector.report.kept as usize)
 }
 
 // The words of the buffer's whole records, at most 1,024 of them, which a search writes.
@@ -99,11 +90,7 @@ pub fn cleared_words(vector: Vector) -> usize
     ensures { result ≡ cleared_words vector }
 {
     let whole = vector.records as usize / 40 * 40;
-    if is_accepted(vector) {
-        if whole < 40960 { whole } else { 40960 }
-    } else {
-        0
-    }
+    if_accepted(vector, whole.min(40960))
 }
 
 // Where the marks begin, counted from the vector's start.
@@ -117,11 +104,7 @@ pub fn marks_at(vector: Vector) -> usize
 pub fn mark_words(vector: Vector) -> usize
     ensures { (result ≡ mark_words vector) × (result < 2 ^ 32) }
 {
-    if is_accepted(vector) {
-        vector.marks as usize
-    } else {
-        0
-    }
+    if_accepted(vector, vector.marks as usize)
 }
 
 // The bytes of the whole vector.
