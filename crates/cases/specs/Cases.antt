@@ -25,7 +25,7 @@ use Rattle.detector_rows.specs.RowsClauses.{next_bullseye}
 use Rattle.detector_window.specs.declared.Bullseye.{Bullseye}
 use Rattle.detector_variance.specs.Variance.{width_to, tenth_of_width, further, variance_to, expected_area, area_variance, circle_variance}
 use Rattle.records.specs.Records.{Record, filter}
-use Rattle.detector_kept.specs.Spread.{mean, with_square, squares, deviation, spread}
+use Rattle.detector_kept.specs.Spread.{mean, with_square, squares, deviation, axis, spread}
 use Rattle.detector_kept.specs.Retain.{near, retain}
 use Rattle.detector_kept.specs.Kept.{ranked}
 use Rattle.detector_sort.specs.Sort.{insert, sort}
@@ -179,7 +179,7 @@ pub cases : Cases
 unfolding ones size round of_bits of_int add sub mul div to_unsigned to_signed abs floor units_of root_by isqrt round_root sqrt
     ◌>>=◌ value test_bit bit_at range value_of flat_map pixel try_get count_black try_get_area
     even_runs_pass odd_runs_pass valid_widths bump total metadata skip_white window_by next_bullseye_by
-    width_to tenth_of_width further variance_to expected_area area_variance circle_variance filter mean with_square squares deviation spread near
+    width_to tenth_of_width further variance_to expected_area area_variance circle_variance filter mean with_square squares deviation axis spread near
     lt longest shortest linear_eccentricity check_ellipse_point in_ellipse any_below firsts number least_below greatest_below enclosing_rectangle read_bits
     insert sort rank ranked verdict ideal_side guessed_size left_shift right_shift boundary_of adjusted_point quarter_of
 cases = record {

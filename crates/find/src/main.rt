@@ -53,14 +53,7 @@ fn put_lines(file: &[u8], text: &mut [u8]) -> usize
         &mut marks[..size],
         false,
     );
-    text_run::put_run(
-        text,
-        report.answer,
-        report.found,
-        report.kept,
-        report.marked,
-        &records,
-    )
+    text_run::put_run(text, report, &records)
 }
 
 // Whether an input has ended: the read after its last byte gives none.

@@ -6,17 +6,18 @@ ghost use Rattle.text.specs.Text.{decimal_of, hex_of};
 ghost use Rattle.text.specs.TextClauses.{HasRoom, Wrote, Grown};
 ghost use Rattle.text_lines.specs.Lines.{following, parted, degrees_of, corner_fields, report_line, record_line};
 
+use detector::Report;
 use text::Text;
 
 // The line of a report.
-pub fn put_report(text: &mut Text, answer: u32, found: u32, kept: u32, marked: u32)
+pub fn put_report(text: &mut Text, report: Report)
     requires { HasRoom 80 text.old }
-    ensures { Wrote (report_line answer found kept marked) text.old text.new }
+    ensures { Wrote (report_line report.answer report.found report.kept report.marked) text.old text.new }
 {
-    text.put_named(b"answer ", answer);
-    text.put_named(b" found ", found);
-    text.put_named(b" kept ", kept);
-    text.put_named(b" marked ", marked);
+    text.put_named(b"answer ", report.answer);
+    text.put_named(b" found ", report.found);
+    text.put_named(b" kept ", report.kept);
+    text.put_named(b" marked ", report.marked);
     text.put(b"\n");
 }
 

@@ -6,6 +6,7 @@ ghost use Rattle.text.specs.Text.{Puts};
 ghost use Rattle.text.specs.TextClauses.{HasRoom, Wrote};
 ghost use Rattle.text_run.specs.RunText.{lines_of, run_text, fitting_text};
 
+use detector::Report;
 use text::Text;
 
 // The lines of the records, in their order.
@@ -19,41 +20,27 @@ fn put_records(text: &mut Text, records: &[[u32; 40]])
 }
 
 // All that a run prints: the line of its report, then those of the kept records.
-pub fn put_run(
-    buf: &mut [u8],
-    answer: u32,
-    found: u32,
-    kept: u32,
-    marked: u32,
-    records: &[u32],
-) -> usize
-    requires { (80 + 200 * kept ≤ length buf.old) × (40 * kept ≤ length records.now) }
-    ensures { Puts (run_text answer found kept marked records.now) 0 buf.old result buf.new }
+pub fn put_run(buf: &mut [u8], report: Report, records: &[u32]) -> usize
+    requires { (80 + 200 * report.kept ≤ length buf.old) × (40 * report.kept ≤ length records.now) }
+    ensures { Puts (run_text report.answer report.found report.kept report.marked records.now) 0 buf.old result buf.new }
 {
     let mut text = Text::new(buf);
-    text_lines::put_report(&mut text, answer, found, kept, marked);
-    put_records(&mut text, records::front(records, kept as usize));
+    text_lines::put_report(&mut text, report);
+    put_records(&mut text, records::front(records, report.kept as usize));
     text.len()
 }
 
 // The same for lent buffers of any length: 80 bytes and 200 for each kept record are room enough. Where there is less, or fewer records are lent than
 // kept, nothing is written, and the place is 0.
-pub fn put_fitting(
-    buf: &mut [u8],
-    answer: u32,
-    found: u32,
-    kept: u32,
-    marked: u32,
-    records: &[u32],
-) -> usize
-    ensures { Puts (fitting_text (length buf.old) answer found kept marked records.now) 0 buf.old result buf.new }
+pub fn put_fitting(buf: &mut [u8], report: Report, records: &[u32]) -> usize
+    ensures { Puts (fitting_text (length buf.old) report.answer report.found report.kept report.marked records.now) 0 buf.old result buf.new }
 {
-    let count = kept as usize;
+    let count = report.kept as usize;
     if buf.len() < 80 + 200 * count {
         return 0;
     }
     if records.len() < 40 * count {
         return 0;
     }
-    put_run(buf, answer, found, kept, marked, records)
+    put_run(buf, report, records)
 }

@@ -105,5 +105,11 @@ pub extern "C" fn maxicode_lines(
     ensures { Puts (fitting_text (length text.old) answer found kept marked records.now) 0 text.old result
         text.new }
 {
-    text_run::put_fitting(text, answer, found, kept, marked, records)
+    let report = Report {
+        answer,
+        found,
+        kept,
+        marked,
+    };
+    text_run::put_fitting(text, report, records)
 }

@@ -13,5 +13,5 @@ put_records-requires c =
 pub returns : goal.returns
 returns c =
     let same = c.put_records.ensures.same ∙ c.put_report.ensures.same ∙ c.new-text.ensures.same_reference in
-    run_put c.args.answer c.args.found c.args.kept c.args.marked c.args.records.now c.new-text.ensures.empty c.put_report.ensures c.front.ensures.0
+    run_put c.args.report.answer c.args.report.found c.args.report.kept c.args.report.marked c.args.records.now c.new-text.ensures.empty c.put_report.ensures c.front.ensures.0
     c.put_records.ensures c.len.ensures (grind (arith, common_steps))
