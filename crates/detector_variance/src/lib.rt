@@ -6,6 +6,8 @@ ghost use Rattle.std.specs.Prelude.{◌≡◌, ◌<◌};
 ghost use Rattle.detector_variance.specs.Variance.{width_to, further, variance_to, expected_area, area_variance, circle_variance};
 ghost use Rattle.detector_variance.specs.VarianceClauses.{Short};
 
+// That runs are `Short` stands in clauses: a type for it would be made of two slices by one caller, and taken apart here.
+
 // Which runs a sum takes, by 1: the even ones; of the odd ones all but the middle one; all but the first and the middle one.
 const EVENS: [u8; 11] = [1, 0, 1, 0, 1, 0, 1, 0, 1, 0, 1];
 
