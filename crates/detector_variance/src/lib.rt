@@ -15,7 +15,8 @@ const ODDS: [u8; 11] = [0, 1, 0, 1, 0, 0, 0, 1, 0, 1, 0];
 
 const OTHERS: [u8; 11] = [0, 1, 1, 1, 1, 0, 1, 1, 1, 1, 1];
 
-// The width of those that t takes, row and column.
+// The width of those that t takes, row and column. Put in place, as the sum below: of a list that is known the tests go away.
+#[inline(always)]
 fn total_width(t: &[u8; 11], h: &[u32], v: &[u32]) -> u32
     requires { Short h.now × Short v.now }
     ensures { result ≡ width_to t.now h.now v.now 11 }
@@ -30,6 +31,7 @@ fn total_width(t: &[u8; 11], h: &[u32], v: &[u32]) -> u32
 }
 
 // acc, and how far the run n is from what is expected.
+#[inline(always)]
 fn further_by(expected: f32, acc: f32, n: u32) -> f32
     ensures { result ≡ further expected acc n }
 {
@@ -37,6 +39,7 @@ fn further_by(expected: f32, acc: f32, n: u32) -> f32
 }
 
 // How far the row runs that t takes are from what is expected, added in their order.
+#[inline(always)]
 fn total_variance(t: &[u8; 11], h: &[u32], expected: f32) -> f32
     requires { Short h.now }
     ensures { result ≡ variance_to t.now h.now expected 11 }
