@@ -10,7 +10,8 @@ use bit_matrix::Shape;
 use detector_size::Size;
 use rxing_result_point::PointU;
 
-// The four boundaries of a symbol, in the source's words: top is the larger row.
+// The four boundaries of a symbol, in the source's words: top is the larger row. That they are `Placed` stands in clauses and not in the
+// type, since definitions and step_exports make boundaries of any numbers.
 #[derive(Clone, Copy)]
 pub struct Boundary {
     pub left: u32,

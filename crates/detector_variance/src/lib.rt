@@ -6,6 +6,8 @@ ghost use Rattle.std.specs.Prelude.{◌≡◌, ◌<◌};
 ghost use Rattle.detector_variance.specs.Variance.{width_to, further, variance_to, expected_area, area_variance, circle_variance};
 ghost use Rattle.detector_variance.specs.VarianceClauses.{Short};
 
+// That runs are `Short` stands in clauses: a type for it would be made of two slices by one caller, and taken apart here.
+
 // Which runs a sum takes, by 1: the even ones; of the odd ones all but the middle one; all but the first and the middle one.
 const EVENS: [u8; 11] = [1, 0, 1, 0, 1, 0, 1, 0, 1, 0, 1];
 
@@ -13,7 +15,8 @@ const ODDS: [u8; 11] = [0, 1, 0, 1, 0, 0, 0, 1, 0, 1, 0];
 
 const OTHERS: [u8; 11] = [0, 1, 1, 1, 1, 0, 1, 1, 1, 1, 1];
 
-// The width of those that t takes, row and column.
+// The width of those that t takes, row and column. Put in place, as the sum below: of a list that is known the tests go away.
+#[inline(always)]
 fn total_width(t: &[u8; 11], h: &[u32], v: &[u32]) -> u32
     requires { Short h.now × Short v.now }
     ensures { result ≡ width_to t.now h.now v.now 11 }
@@ -28,6 +31,7 @@ fn total_width(t: &[u8; 11], h: &[u32], v: &[u32]) -> u32
 }
 
 // acc, and how far the run n is from what is expected.
+#[inline(always)]
 fn further_by(expected: f32, acc: f32, n: u32) -> f32
     ensures { result ≡ further expected acc n }
 {
@@ -35,6 +39,7 @@ fn further_by(expected: f32, acc: f32, n: u32) -> f32
 }
 
 // How far the row runs that t takes are from what is expected, added in their order.
+#[inline(always)]
 fn total_variance(t: &[u8; 11], h: &[u32], expected: f32) -> f32
     requires { Short h.now }
     ensures { result ≡ variance_to t.now h.now expected 11 }

@@ -1,7 +1,7 @@
 -- The even runs, and the odd ones but run 5, as the code lists them. Assumes nothing.
 use Rattle.std.proofs.Common.{◌≡◌, ℕ, List, [], ◌∷◌, sum, ap, arith}
 use Rattle.detector_widths.specs.Widths.{at, even_total, odd_total, even_runs_pass, odd_runs_pass}
-use Rattle.detector_widths.specs.RunsPass.{runs_pass}
+use Rattle.detector_widths.specs.WidthsClauses.{runs_pass}
 
 abbrev pub even : List ℕ → List ℕ
 even xs = at xs 0 ∷ at xs 2 ∷ at xs 4 ∷ at xs 6 ∷ at xs 8 ∷ at xs 10 ∷ []

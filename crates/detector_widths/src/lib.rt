@@ -4,7 +4,7 @@
 
 ghost use Rattle.std.specs.Prelude.{◌≡◌, ◌^◌, ◌<◌, ◌≤◌, sum};
 ghost use Rattle.detector_widths.specs.Widths.{passes, valid_widths};
-ghost use Rattle.detector_widths.specs.RunsPass.{runs_pass};
+ghost use Rattle.detector_widths.specs.WidthsClauses.{runs_pass};
 
 // Whether a run passes among runs of this total, in 64 bits: sums and multiples of runs can pass 2^32.
 fn passes(total: u64, run: u32) -> bool

@@ -16,6 +16,7 @@ pub fn read_full<R: Read>(reader: &mut R, buf: &mut [u8]) -> io::Result<usize>
     ensures end { IfOk result (λ n. n < length buf.new → IsAtEnd (R.remaining reader.new)) }
 {
     let mut done = 0;
+    // A `while`, for each read says how far it came.
     while done < buf.len() {
         let n = reader.read(&mut buf[done..])?;
         if n == 0 {
