@@ -1,7 +1,7 @@
 -- Near pairs, inputs that the rules tell apart by little, as one table: a field for each case says what a step's definition gives. `cases` proves the
 -- table, by computation. Assumes nothing.
-use Rattle.std.specs.Prelude.{ℕ, ◌+◌, ◌*◌, ◌-◌, ◌/◌, ◌%◌, ◌^◌, Bool, true, false, ◌≡◌, refl, eqb, set, replicate, drop, Option, Some, None}
-use mathlib.Core.List.{List, [], ◌∷◌, ◌++◌, map, flat_map}
+use Rattle.std.specs.Prelude.{ℕ, ◌+◌, ◌*◌, ◌-◌, ◌/◌, ◌%◌, ◌^◌, Bool, true, false, ◌≡◌, refl, eqb, set, replicate, drop, Option, Some, None, List, [], ◌∷◌, ◌++◌, map}
+use mathlib.Core.List.{flat_map}
 use Rattle.std.specs.Int.Count.{ones}
 use Rattle.std.specs.Float.Ieee.{size, round, of_bits, of_int, add, sub, mul, div, lt, to_unsigned, to_signed}
 use Rattle.ieee.specs.Sign.{abs}

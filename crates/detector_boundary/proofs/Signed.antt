@@ -1,10 +1,10 @@
 -- Signed arithmetic brought to the naturals, where `omega` reads it.
 -- A signed local holds bits; `read z` is what the machine reads back, and is z since z fits. Assumes nothing.
 use Rattle.std.proofs.Common.{◌≡◌, ℕ, zero, suc, ◌+◌, ◌-◌, ◌/◌, ◌<◌, ◌≤◌, Bool, cond, ℤ, pos, negsuc, ◌+ℤ◌, ◌-ℤ◌, sym, ap, ◌∙◌, subst, ap₂, arith, w32, SFits, to_z, of_z, le-ltb, lt-ltb}
-use native.Mathlib.Decide.{dec_lt}
-use lib.IntN.{sub_ℕ}
+use Rattle.std.proofs.lemmas.Int.{to_z-of_z, to_z_pos}
+use Rattle.std.proofs.Math.IntN.{sub_ℕ}
+use Rattle.std.proofs.Math.Decide.{dec_lt}
 use lib.Signed.{mag, quot_z}
-use mir.ValLaws.{to_z-of_z, to_z_pos}
 
 abbrev pub read : ℤ → ℤ
 read z = to_z w32 (of_z w32 z)

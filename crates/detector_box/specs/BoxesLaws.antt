@@ -1,8 +1,8 @@
 -- A symbol's words for each outcome, and what holds of every turn, with the option on or off. Assumes nothing.
-use Rattle.std.specs.Prelude.{ℕ, Bool, true, false, ◌≡◌, replicate}
+use Rattle.std.specs.Prelude.{ℕ, Bool, true, false, ◌≡◌, replicate, [], ◌∷◌, ◌++◌}
 use Rattle.std.proofs.Common.{arith}
 use Rattle.std.proofs.Math.Path.{refl}
-use mathlib.Core.List.{[], ◌∷◌, ◌++◌, flat_map}
+use mathlib.Core.List.{flat_map}
 use Rattle.std.specs.Float.{binary32}
 use Rattle.std.specs.Float.Ieee.{of_int, to_bits}
 use Rattle.reads.specs.ReadsLaws.{Always}

@@ -1,9 +1,6 @@
 -- The records boxed one by one, behind those that are boxed already: what a loop has left to do, and that it comes to `boxed_all`. Assumes nothing.
-use Prim.Native.Nat.{ℕ}
-use mathlib.Core.Bool.{Bool}
-use mathlib.Core.Path.{◌≡◌, refl, sym, ap, ◌∙◌}
-use mathlib.Core.List.{List, [], ◌∷◌, ◌++◌, append-nil}
-use lib.Seq.{append_snoc}
+use Rattle.std.proofs.Common.{ℕ, Bool, ◌≡◌, refl, sym, ap, ◌∙◌, List, [], ◌∷◌, ◌++◌, append-nil}
+use Rattle.std.proofs.Math.Seq.{append_snoc}
 use Rattle.reads.specs.Reads.{Reads, done, ◌>>=◌, value, trace}
 use Rattle.reads.proofs.ReadsLaws.{value_bind, trace_bind}
 use Rattle.reads.specs.Bits.{bit_at, mark_all}

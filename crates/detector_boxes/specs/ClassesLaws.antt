@@ -1,6 +1,5 @@
 -- Every boxed record has the class of its outcome. Assumes nothing.
-use Rattle.std.specs.Prelude.{ℕ, ◌%◌, ◌≤◌, Bool, ◌≡◌, length, get_or}
-use mathlib.Core.List.{List, [], ◌∷◌}
+use Rattle.std.specs.Prelude.{ℕ, ◌%◌, ◌≤◌, Bool, ◌≡◌, length, get_or, List, [], ◌∷◌}
 use Rattle.std.proofs.Common.{◌∙◌}
 use Rattle.std.specs.Float.{binary32}
 use Rattle.std.specs.Float.Ieee.{to_bits}

@@ -1,7 +1,7 @@
 -- What holds of one search of a row, on the image at hand: where it does not end its row, the next one starts further to the right, and its candidate is fit
 -- for the steps after the sweep; and that the search with the source's test of the widths is the same. Assumes nothing.
 use Rattle.std.proofs.Common.{Option, Some, None, IfSome, cond, eqb, ℕ, zero, suc, ◌+◌, ◌-◌, ◌/◌, ◌≤◌, ◌<◌, arith, length-append, ◌≡◌, refl, Bool, true, false, length, get_or, List, [], ◌∷◌, ◌++◌}
-use borrow.Author.Tests.{eqb-false}
+use Rattle.std.proofs.lemmas.Bool.{eqb-false}
 use Rattle.std.proofs.Math.ListN.{replicate, length-replicate}
 use Rattle.reads.specs.ReadsLaws.{On, Same}
 use Rattle.reads.proofs.ReadsLaws.{on_done, on_always, on_bind, same_refl, same_after}

@@ -1,6 +1,7 @@
 -- Corners through f32 and back to u32. Assumes nothing.
 use Rattle.std.proofs.Common.{◌≡◌, ℕ, ◌^◌, ◌≤◌, [], ◌∷◌, ap₂, arith}
-use lib.Ieee.{binary32, to_unsigned}
+use Rattle.std.specs.Float.Ieee.{to_unsigned}
+use Rattle.std.specs.Float.{binary32}
 use Rattle.ieee.specs.BetweenLaws.{whole_between, cast_between}
 use Rattle.rxing_result_point.specs.declared.PointU.{PointU}
 use Rattle.rxing_result_point.specs.Points.{real, get_point}

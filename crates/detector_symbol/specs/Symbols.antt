@@ -1,6 +1,6 @@
 -- A symbol's words in a record. Definitions only. Assumes nothing.
-use Rattle.std.specs.Prelude.{ℕ, get_or, take}
-use mathlib.Core.List.{List, [], ◌∷◌, ◌++◌, flat_map}
+use Rattle.std.specs.Prelude.{ℕ, get_or, take, List, [], ◌∷◌, ◌++◌}
+use mathlib.Core.List.{flat_map}
 use Rattle.std.specs.Float.{nan, binary32}
 use Rattle.std.specs.Float.Ieee.{to_bits}
 use Rattle.records.specs.Fields as field

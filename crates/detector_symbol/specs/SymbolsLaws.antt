@@ -1,7 +1,7 @@
 -- A record with a symbol's words is whole, and what they are word by word. Assumes nothing.
-use Rattle.std.specs.Prelude.{ℕ, ◌+◌, ◌≡◌, length, get_or, take, drop}
+use Rattle.std.specs.Prelude.{ℕ, ◌+◌, ◌≡◌, length, get_or, take, drop, List, ◌++◌}
 use Rattle.std.proofs.Common.{arith, sym, ap, ◌∙◌, length-append, take_at, drop_at, drop-drop, length-take-le, get_or-append-add}
-use mathlib.Core.List.{List, ◌++◌, flat_map}
+use mathlib.Core.List.{flat_map}
 use Rattle.records.specs.Fields as field
 use Rattle.detector_outcome.specs.Outcomes.{outcome_number, scale_of, rotation_bits}
 use Rattle.detector_symbol.specs.declared.Symbol.{Symbol}

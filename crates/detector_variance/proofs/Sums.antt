@@ -1,6 +1,7 @@
 -- The sums of `calculate_circle_variance`, and how they are put together. Assumes nothing.
-use Rattle.std.proofs.Common.{◌≡◌, ℕ, ◌+◌, ◌<◌, List, get_or, true, false, ◌≢◌, add-one, eq-eqb, ne_eqb, refl, ap, ◌∙◌, ap₂}
-use lib.Ieee.{Float, binary32, of_bits, add, div}
+use Rattle.std.proofs.Common.{◌≡◌, ℕ, ◌+◌, ◌<◌, List, get_or, true, false, ◌≢◌, add-one, eq-eqb, ne_eqb, refl, ap, ◌∙◌, ap₂, Float}
+use Rattle.std.specs.Float.Ieee.{of_bits, add, div}
+use Rattle.std.specs.Float.{binary32}
 use Rattle.rxing_result_point.specs.Points.{real}
 use Rattle.detector_variance.specs.Variance.{takes, evens, odds, others, width_to, tenth_of_width, further, variance_to, expected_area, area_variance, circle_variance}
 use Rattle.detector_variance.specs.VarianceClauses.{Short}

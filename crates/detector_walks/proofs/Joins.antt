@@ -1,12 +1,5 @@
 -- So many steps of a walk, from a column on: the loop that takes them, and how they are joined to the whole walk. Assumes nothing.
-use Prim.Native.Nat.{ℕ, zero, suc, ◌+◌, ◌-◌, ◌^◌, ◌≤◌, ◌<◌}
-use native.Mathlib.Nat.{eq-or-lt_of_le}
-use native.Mathlib.Omega.{arith}
-use mathlib.Core.Bool.{Bool, true, false, cond, true≢false}
-use mathlib.Core.List.{List}
-use mathlib.Core.Logic.{inl, inr}
-use mathlib.Core.Path.{◌≡◌, refl, sym, ap, subst, ◌∙◌}
-use lib.ListN.{length}
+use Rattle.std.proofs.Common.{ℕ, zero, suc, ◌+◌, ◌-◌, ◌^◌, ◌≤◌, ◌<◌, eq-or-lt_of_le, arith, Bool, true, false, cond, true≢false, List, inl, inr, ◌≡◌, refl, sym, ap, subst, ◌∙◌, length}
 use Rattle.reads.specs.Reads.{Reads, done, ◌>>=◌, value}
 use Rattle.reads.specs.Runs.{value_of, marks_of}
 use Rattle.reads.specs.RunsClauses.{Ran, Resumes}

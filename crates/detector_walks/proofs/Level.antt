@@ -1,20 +1,14 @@
 -- The point of a walk by fewer operations: its distance down from the centre is zero, and a zero added changes no more than a zero's sign, which is
 -- cleared at the end. And how large a coordinate of the point is at most. Assumes nothing.
-use mathlib.Core.Path.{◌≡◌, refl, sym, ap, subst⁻¹, ◌∙◌}
-use mathlib.Core.Bool.{Bool, true, false}
-use mathlib.Core.Logic.{◌⊎◌, inl, inr, ⊎_elim}
-use Prim.Native.Nat.{ℕ, zero, suc, ◌+◌, ◌*◌, ◌^◌, ◌≤◌, ◌<◌}
-use native.Mathlib.Nat.{lt_of_lt_of_le, mul_comm, mul_assoc, zero-mul, mul-lt-mul_of_pos_right, eq_of_mul-eq-mul_right, mul-pos}
-use native.Mathlib.Omega.{arith}
-use lib.Dec.{T, ltb, lt→ltb, lit<}
-use lib.IntN.{ℤ, pos}
-use lib.Pow.{pow_mono}
-use lib.Ieee.{Float, nan, inf, fin, binary32, up, down, round, sum, add, mul, lt, fits}
+use Rattle.std.proofs.Common.{◌≡◌, refl, sym, ap, ◌∙◌, Bool, true, false, ◌⊎◌, inl, inr, ⊎_elim, ℕ, zero, suc, ◌+◌, ◌*◌, ◌^◌, ◌≤◌, ◌<◌, lt_of_lt_of_le, mul_comm, mul_assoc, zero-mul, mul-lt-mul_of_pos_right, mul-pos, arith, T, ltb, lt→ltb, lit<, ℤ, pos, pow_mono, Float, le-ltb, lt-ltb}
+use Rattle.std.specs.Float.Ieee.{up, down, round, sum, add, mul, lt, fits}
+use Rattle.std.specs.Float.{nan, inf, fin, binary32}
+use Rattle.std.proofs.Math.Nat.{eq_of_mul-eq-mul_right}
+use Rattle.std.proofs.Math.Path.{subst⁻¹}
 use lib.Ieee.Exact.{HasValue}
 use lib.Ieee.Fits.{down_pos}
 use lib.Ieee.Positive.{num, den, den_pos}
 use lib.Ieee.Scale.{round_same}
-use borrow.Author.Tests.{le-ltb, lt-ltb}
 use Rattle.ieee.specs.Sign.{abs}
 use Rattle.ieee.specs.RoundLaws.{crossed}
 use Rattle.ieee.specs.BetweenLaws.{Between}

@@ -1,14 +1,8 @@
 -- What a step of a walk looks at: the pixel of the turned point. Each cast to f32 loses nothing, and a term that is left out is zero (`Level.antt`). Assumes
 -- nothing.
-use Prim.Native.Nat.{ℕ, ◌^◌, ◌≤◌, ◌<◌}
-use mathlib.Core.Bool.{Bool, false, not}
-use mathlib.Core.List.{List}
-use mathlib.Core.Path.{◌≡◌, sym, ap₂, subst, ◌∙◌}
-use native.Mathlib.Omega.{arith}
-use lib.Dec.{T, le→leb}
-use lib.IntN.{pos}
-use lib.Pow.{pow_pos}
-use lib.Ieee.{Float, fin, binary32, neg, add, sub, mul, lt, to_unsigned, in_float}
+use Rattle.std.proofs.Common.{ℕ, ◌^◌, ◌≤◌, ◌<◌, Bool, false, not, List, ◌≡◌, sym, ap₂, subst, ◌∙◌, arith, T, le→leb, pos, pow_pos, Float}
+use Rattle.std.specs.Float.Ieee.{neg, add, sub, mul, lt, to_unsigned, in_float}
+use Rattle.std.specs.Float.{fin, binary32}
 use lib.Ieee.Fits.{mul-fits}
 use Rattle.ieee.specs.Sign.{abs}
 use Rattle.ieee.specs.BetweenLaws.{Between}

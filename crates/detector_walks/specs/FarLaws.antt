@@ -1,10 +1,11 @@
 -- How large a float is at least, through Rust's operators at binary32: `Far s n x` says that x has the sign s and is n or more in size, an infinity included.
 -- And where whole numbers are kept exactly: `HasValue x s n 1`. Assumes nothing.
-use Rattle.std.specs.Prelude.{◌≡◌, refl, Bool, true, false, not, cond, ℕ, zero, suc, ◌+◌, ◌-◌, ◌*◌, ◌/◌, ◌^◌, ◌≤◌, ◌<◌, T, ltb}
+use Rattle.std.specs.Prelude.{◌≡◌, refl, Bool, true, false, not, cond, ℕ, zero, suc, ◌+◌, ◌-◌, ◌*◌, ◌/◌, ◌^◌, ◌≤◌, ◌<◌, T, ltb, Float}
 use Rattle.std.proofs.Common.{sym, ap, ap₂, subst, ◌∙◌, true≢false, le_trans, le_of_eq, mul_comm, mul_assoc, mul-one, zero-mul, mul_right_comm, add-mul, mul-le-mul_right, le_of_mul-le-mul_right, mul-pos, le-div_iff_mul-le, mul-div_cancel, arith, pow_pos, le-ltb, lt-ltb}
 use Rattle.std.proofs.Math.Path.{subst⁻¹}
 use Rattle.std.proofs.Math.Nat.{mul-mul-mul_comm, eq_of_mul-eq-mul_right}
-use lib.Ieee.{Float, nan, inf, fin, binary32, up, down, round, units, odd, sum, neg, add, sub, mul, le, to_unsigned, unlike}
+use Rattle.std.specs.Float.Ieee.{up, down, round, units, odd, sum, neg, add, sub, mul, le, to_unsigned, unlike}
+use Rattle.std.specs.Float.{nan, inf, fin, binary32}
 use Rattle.std.specs.Float.Ieee.Fits.{down_pos, round_is}
 use Rattle.std.specs.Float.Ieee.Exact.{HasValue}
 use Rattle.std.specs.Float.Ieee.Back.{round_whole}

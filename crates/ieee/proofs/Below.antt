@@ -1,8 +1,8 @@
 -- The whole part of a value of binary32 below 2 ^ 28, in the bit pattern of 2 ^ 28 more at binary64. And the sign, cleared in the pattern. Assumes nothing.
-use Rattle.std.proofs.Common.{◌≡◌, ℕ, zero, suc, ◌+◌, ◌-◌, ◌*◌, ◌/◌, ◌%◌, ◌^◌, ◌<◌, ◌≤◌, Bool, true, false, cond, not, T, ℤ, pos, negsuc, sym, refl, ap, ◌∙◌, subst, ⊎_elim, le_trans, le_of_eq, lt_of_lt_of_le, mod-lt, mul_assoc, div-lt_iff_lt-mul, mul-lt-mul_of_pos_right, le-div_iff_mul-le, mul_right_comm, le_of_mul-le-mul_right, arith, ltb→lt, pow_pos, pow_mono, pow-add, shl_lt, mul-le-mul_right, lt_of_mul-lt-mul_right, lt_of_le_of_lt}
+use Rattle.std.proofs.Common.{◌≡◌, ℕ, zero, suc, ◌+◌, ◌-◌, ◌*◌, ◌/◌, ◌%◌, ◌^◌, ◌<◌, ◌≤◌, Bool, true, false, cond, not, T, ℤ, pos, negsuc, sym, refl, ap, ◌∙◌, subst, ⊎_elim, le_trans, le_of_eq, lt_of_lt_of_le, mod-lt, mul_assoc, div-lt_iff_lt-mul, mul-lt-mul_of_pos_right, le-div_iff_mul-le, mul_right_comm, le_of_mul-le-mul_right, arith, ltb→lt, pow_pos, pow_mono, pow-add, shl_lt, mul-le-mul_right, lt_of_mul-lt-mul_right, lt_of_le_of_lt, Float}
 use Rattle.std.proofs.Math.Nat.{eq_of_mul-eq-mul_right}
-use lib.Ieee.{Float, nan, inf, fin, Format, binary32, binary64, prec, low, hid, up, down}
-use lib.Ieee.{round, sum, add, lt, le, fits, is_nan, nan_bits, of_bits, to_bits, to_unsigned}
+use Rattle.std.specs.Float.Ieee.{prec, low, hid, up, down, round, sum, add, lt, le, fits, is_nan, nan_bits, of_bits, to_bits, to_unsigned}
+use Rattle.std.specs.Float.{nan, inf, fin, Format, binary32, binary64}
 use lib.Ieee.Bits.{of_bits-to_bits, to_bits-lt, nan_bits_is}
 use lib.Ieee.Exact.{HasValue, round_exact}
 use lib.Ieee.Fits.{two, reach, down_pos, add-fits}

@@ -1,6 +1,7 @@
 -- What `fits` says of a finite value m * 2 ^ e. Assumes nothing.
 use Rattle.std.proofs.Common.{◌≡◌, ℕ, zero, suc, ◌*◌, ◌^◌, ◌<◌, ◌≤◌, Bool, T, ℤ, pos, negsuc, sym, refl, ◌∙◌, subst, mul-pos, one-mul, mul-one, arith, eqb→eq, ltb→lt, leb→le, pow_pos}
-use lib.Ieee.{fin, Format, prec, emax, low, up, down, fits}
+use Rattle.std.specs.Float.Ieee.{prec, emax, low, up, down, fits}
+use Rattle.std.specs.Float.{fin, Format}
 use lib.Ieee.Fits.{and_l, and_r, down_pos}
 
 -- a zero that fits has the exponent 0

@@ -1,11 +1,12 @@
 -- The digits and the exponent of a positive finite value, in units of the format's smallest value, as they stand in its bit pattern. Assumes nothing.
-use Rattle.std.proofs.Common.{◌≡◌, ℕ, zero, suc, ◌+◌, ◌*◌, ◌/◌, ◌%◌, ◌^◌, ◌<◌, Bool, true, false, cond, not, T, eqb, leb, sym, refl, ap, subst, mod-eq_of_lt, arith}
+use Rattle.std.proofs.Common.{◌≡◌, ℕ, zero, suc, ◌+◌, ◌*◌, ◌/◌, ◌%◌, ◌^◌, ◌<◌, Bool, true, false, cond, not, T, eqb, leb, sym, refl, ap, subst, mod-eq_of_lt, arith, Float, to_bits}
 use Rattle.std.proofs.Math.Dec.{nleb→lt}
-use lib.Ieee.{Float, nan, inf, fin, Format, prec, low, hid, ones, top, odd, fits, is_nan, of_fields, of_bits, to_bits}
+use Rattle.std.proofs.lemmas.Bool.{eqb-false}
+use Rattle.std.specs.Float.Ieee.{prec, low, hid, ones, top, odd, fits, is_nan, of_fields, of_bits}
+use Rattle.std.specs.Float.{nan, inf, fin, Format}
 use lib.Ieee.Exact.{HasValue, odd_sign}
 use lib.Ieee.Bits.{of_bits-to_bits}
 use lib.Ieee.Positive.{positive}
-use borrow.Author.Tests.{eqb-false}
 
 pub positive_not_nan : (x : Float) → T (positive x) → T (not (is_nan x))
 unfolding is_nan

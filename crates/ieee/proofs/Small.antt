@@ -1,8 +1,9 @@
 -- The whole part of a value of binary32 below 2 ^ 22, by 2 ^ 23 more at binary32: a whole number, from which one is taken where it exceeds the value.
 -- Assumes nothing.
-use Rattle.std.proofs.Common.{◌≡◌, ℕ, ◌+◌, ◌-◌, ◌*◌, ◌/◌, ◌%◌, ◌^◌, ◌<◌, ◌≤◌, Bool, true, false, not, T, ltb, pos, sym, refl, ap, ◌∙◌, true≢false, le_trans, le_of_eq, lt_of_le_of_lt, div-lt_iff_lt-mul, lt_of_mul-lt-mul_right, mul-lt-mul_of_pos_right, le-div_iff_mul-le, le_of_mul-le-mul_right, arith, ltb→lt, lt→ltb, ltb-false, ltb-true, le-ltb}
-use mathlib.Core.Path.{subst⁻¹}
-use lib.Ieee.{Float, nan, inf, fin, Format, binary32, prec, up, down, sum, add, neg, sub, lt, fits, is_nan, to_bits, to_unsigned}
+use Rattle.std.proofs.Common.{◌≡◌, ℕ, ◌+◌, ◌-◌, ◌*◌, ◌/◌, ◌%◌, ◌^◌, ◌<◌, ◌≤◌, Bool, true, false, not, T, ltb, pos, sym, refl, ap, ◌∙◌, true≢false, le_trans, le_of_eq, lt_of_le_of_lt, div-lt_iff_lt-mul, lt_of_mul-lt-mul_right, mul-lt-mul_of_pos_right, le-div_iff_mul-le, le_of_mul-le-mul_right, arith, ltb→lt, lt→ltb, ltb-false, ltb-true, le-ltb, Float, is_nan, to_bits}
+use Rattle.std.specs.Float.Ieee.{prec, up, down, sum, add, neg, sub, lt, fits, to_unsigned}
+use Rattle.std.specs.Float.{nan, inf, fin, Format, binary32}
+use Rattle.std.proofs.Math.Path.{subst⁻¹}
 use lib.Ieee.Fits.{down_pos, add-fits}
 use lib.Ieee.Positive.{positive, num, den, den_pos, positive_of_value}
 use mir.Val.{bool_byte}

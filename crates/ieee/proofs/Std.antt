@@ -4,7 +4,7 @@ use Rattle.std.proofs.lemmas.Nat.{div-add-mod'}
 use Rattle.std.proofs.Math.Nat.{add-div_right, mul-add-div_right, div-eq_of_lt}
 use Rattle.std.specs.Float.{Float, Format, nan, inf, fin, float_with_sign, round_with, float_round}
 use Rattle.std.specs.Float as Std
-use lib.Ieee.{up, down, round}
+use Rattle.std.specs.Float.Ieee.{up, down, round}
 use lib.Ieee.Fits.{down_pos}
 use Rattle.ieee.specs.Sign.{abs}
 use Rattle.ieee.specs.Integral.{floor, round_ties_to_away}

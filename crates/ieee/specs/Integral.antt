@@ -1,7 +1,8 @@
 -- Rust's `floor` and `round`, on the values of `lib.Ieee`. Definitions only. Assumes nothing.
 -- The whole number that each names is a value of the format that holds x, so `lib.Ieee.round` only writes it down. A zero has x's sign.
-use Rattle.std.specs.Prelude.{ℕ, ◌+◌, ◌*◌, ◌/◌, ◌%◌, true, false, cond, ◌==◌}
-use lib.Ieee.{Float, nan, inf, fin, Format, up, down, round}
+use Rattle.std.specs.Prelude.{ℕ, ◌+◌, ◌*◌, ◌/◌, ◌%◌, true, false, cond, ◌==◌, Float}
+use Rattle.std.specs.Float.Ieee.{up, down, round}
+use Rattle.std.specs.Float.{nan, inf, fin, Format}
 
 -- n / d, rounded up
 abbrev up_to : ℕ → ℕ → ℕ

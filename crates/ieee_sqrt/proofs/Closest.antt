@@ -1,9 +1,9 @@
 -- A quotient rounded to the nearest whole number, `lib.Ieee.Nearest.closest`, by its whole part and its rest. Nothing here is about floats. Assumes nothing.
 use Rattle.std.proofs.Common.{ℕ, zero, suc, ◌+◌, ◌-◌, ◌*◌, ◌/◌, ◌%◌, ◌≤◌, ◌<◌, le_of_eq, le_of_lt, arith, ◌≡◌, refl, sym, ap, ◌∙◌, not, ◌⊎◌, inl, inr, T, leb→le, eqb→eq}
 use Prim.Native.Nat.{compare, Ordering}
-use lib.Dec.{is_le, compare_is_eq, nleb→lt}
-use lib.Arith.{digits_div, digits_mod}
-use lib.Ieee.{nearest}
+use Rattle.std.specs.Float.Ieee.{nearest}
+use Rattle.std.proofs.Math.Arith.{digits_div, digits_mod}
+use Rattle.std.proofs.Math.Dec.{is_le, compare_is_eq, nleb→lt}
 use lib.Ieee.Nearest.{closest}
 
 -- ---- `compare`

@@ -1,7 +1,7 @@
 -- The nearest of the numbers that a format holds, by half ways and squares. Nothing here is about floats. Assumes nothing.
 use Rattle.std.proofs.Common.{ℕ, suc, ◌+◌, ◌-◌, ◌*◌, ◌/◌, ◌%◌, ◌^◌, ◌≤◌, ◌<◌, add-one, le_refl, le_trans, le_of_eq, le_of_lt, lt_of_lt_of_le, mul_assoc, mul-le-mul, mul-le-mul_left, mul-le-mul_right, div-add-mod', mod-lt, arith, ◌≡◌, sym, ap, ◌∙◌, subst, Bool, true, false, cond, ◌⊎◌, inl, inr, ⊎_elim, T, eqb, eqb→eq, pow_pos, pow-add, pow_mono}
 use Rattle.std.proofs.Math.Nat.{eq_of_mul-eq-mul_right, pow-succ'}
-use lib.Arith.{lt_of_le-ne}
+use Rattle.std.proofs.Math.Arith.{lt_of_le-ne}
 use lib.Ieee.Nearest.{closest}
 use Rattle.ieee.proofs.Numbers.{le_or_lt, Odd, odd_square, square_lt}
 use Rattle.ieee_sqrt.specs.IsqrtLaws.{IsRoot}

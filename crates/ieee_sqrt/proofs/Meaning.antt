@@ -1,8 +1,9 @@
 -- `sqrt` is correctly rounded, in both formats (`sqrt_means`; `specs/CorrectlyRounded.antt` says what that is), and nothing else is (`root_unique`).
 -- Assumes nothing.
-use Rattle.std.proofs.Common.{ℕ, suc, ◌+◌, ◌-◌, ◌*◌, ◌/◌, ◌^◌, ◌≤◌, ◌<◌, le_trans, le_of_eq, le_antisymm, arith, ◌≡◌, sym, ap, ◌∙◌, subst, false, ◌⊎◌, ⊎_elim, T, pow_pos, pow_mono}
+use Rattle.std.proofs.Common.{ℕ, suc, ◌+◌, ◌-◌, ◌*◌, ◌/◌, ◌^◌, ◌≤◌, ◌<◌, le_trans, le_of_eq, le_antisymm, arith, ◌≡◌, sym, ap, ◌∙◌, subst, false, ◌⊎◌, ⊎_elim, T, pow_pos, pow_mono, Float}
 use Rattle.std.proofs.Math.Nat.{pow-succ'}
-use lib.Ieee.{Float, Format, prec, emax, low, units, fits}
+use Rattle.std.specs.Float.Ieee.{prec, emax, low, units, fits}
+use Rattle.std.specs.Float.{Format}
 use lib.Ieee.Nearest.{closest}
 use lib.Ieee.Exact.{HasValue, units_val}
 use lib.Ieee.Fits.{two}

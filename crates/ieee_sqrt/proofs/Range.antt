@@ -2,7 +2,8 @@
 -- between two values. Assumes nothing.
 use Rattle.std.proofs.Common.{ℕ, suc, ◌+◌, ◌-◌, ◌*◌, ◌^◌, ◌≤◌, ◌<◌, le_trans, le_of_eq, lt_of_lt_of_le, lt_of_le_of_lt, lt_irrefl, one-mul, mul_assoc, mul-le-mul_right, mul-lt-mul_of_pos_right, lt_of_mul-lt-mul_right, arith, ◌≡◌, sym, ap, ◌∙◌, ⊎_elim, pow_pos, pow-add, pow_mono}
 use Rattle.std.proofs.Math.Nat.{pow-succ'}
-use lib.Ieee.{Format, binary32, binary64, prec, emax, low, size}
+use Rattle.std.specs.Float.Ieee.{prec, emax, low, size}
+use Rattle.std.specs.Float.{Format, binary32, binary64}
 use lib.Ieee.Digits.{size-lt, size_reaches}
 use lib.Ieee.Fits.{two}
 use Rattle.ieee.proofs.Numbers.{lt_of_square_lt, le_or_lt, Odd, square_mul}

@@ -2,7 +2,8 @@
 -- what comes after it cannot be all zeros when it is 1, since then g would be odd and the root exact. Assumes nothing.
 use Rattle.std.proofs.Common.{ℕ, ◌+◌, ◌-◌, ◌*◌, ◌/◌, ◌%◌, ◌^◌, ◌≤◌, ◌<◌, eq-or-lt_of_le, le_trans, le_of_eq, le_antisymm, lt_of_lt_of_le, lt_irrefl, mul-pos, mul-le-mul_right, div-lt_iff_lt-mul, le-div_iff_mul-le, arith, ◌≡◌, sym, ap, ◌∙◌, Bool, true, false, cond, ⊎_elim, T, eqb, eqb→eq, pow_pos, pow-add, pow_mono}
 use Rattle.std.proofs.Math.Nat.{mul-div-mul_right}
-use lib.Ieee.{Format, prec, low, size, units, round, fits}
+use Rattle.std.specs.Float.Ieee.{prec, low, size, units, round, fits}
+use Rattle.std.specs.Float.{Format}
 use lib.Ieee.Digits.{size-lt, size-le}
 use lib.Ieee.Nearest.{closest, closest_same}
 use lib.Ieee.Fits.{core, round_is, round-fits}

@@ -1,9 +1,10 @@
 -- `sqrt` is the kit's, which is rounded from 2271 binary places: both have the same leading digits, and one more than the format keeps decides.
 -- Assumes nothing.
-use Rattle.std.proofs.Common.{◌≡◌, ℕ, zero, suc, ◌+◌, ◌-◌, ◌*◌, ◌/◌, ◌%◌, ◌^◌, ◌≤◌, ◌<◌, true, false, T, refl, sym, ap, ◌∙◌, subst, mul-le-mul_right, mul-div_cancel, div-lt_iff_lt-mul, le-div_iff_mul-le, arith, eqb→eq, lt→ltb, pow_pos, pow-add}
+use Rattle.std.proofs.Common.{◌≡◌, ℕ, zero, suc, ◌+◌, ◌-◌, ◌*◌, ◌/◌, ◌%◌, ◌^◌, ◌≤◌, ◌<◌, true, false, T, refl, sym, ap, ◌∙◌, subst, mul-le-mul_right, mul-div_cancel, div-lt_iff_lt-mul, le-div_iff_mul-le, arith, eqb→eq, lt→ltb, pow_pos, pow-add, Float}
 use Rattle.std.proofs.Math.Nat.{pow-succ'}
 use lib.Ieee as Ieee
-use lib.Ieee.{Float, nan, inf, fin, Format, binary32, binary64, prec, low, up, down, size, units, round, root_below, root_twice, fits}
+use Rattle.std.specs.Float.Ieee.{prec, low, up, down, size, units, round, root_below, root_twice, fits}
+use Rattle.std.specs.Float.{nan, inf, fin, Format, binary32, binary64}
 use lib.Ieee.Digits.{size-lt}
 use lib.Ieee.Fits.{two, down_pos}
 use lib.Ieee.Positive.{positive, value_pos}

@@ -1,8 +1,7 @@
 -- How reading, replacing, clearing and laying out records of a list of words look on its list of records. Assumes nothing.
-use Rattle.std.specs.Prelude.{ℕ, zero, suc, ◌+◌, ◌-◌, ◌*◌, ◌≤◌, ◌<◌, Bool, true, false, cond, ◌≡◌, refl, length, get_or, take, drop, set, replicate}
+use Rattle.std.specs.Prelude.{ℕ, zero, suc, ◌+◌, ◌-◌, ◌*◌, ◌≤◌, ◌<◌, Bool, true, false, cond, ◌≡◌, refl, length, get_or, take, drop, set, replicate, List, [], ◌∷◌, ◌++◌, map}
 use Rattle.std.proofs.Common.{arith, sym, ap, ap₂, ◌∙◌, length-append, length-drop, take-append-drop, drop-set-lt, take-add, drop-drop, take_at, drop_at, length-take-le, get_or-take, get_or-drop, get_or-append-add}
-use mathlib.Core.List.{List, [], ◌∷◌, ◌++◌, map, append_assoc}
-use Rattle.std.proofs.lemmas.List.{length-replicate, get_or-replicate, take-set-le, drop-set-add}
+use Rattle.std.proofs.lemmas.List.{length-replicate, get_or-replicate, take-set-le, drop-set-add, append_assoc}
 use Rattle.std.proofs.Math.ListN.{get_or-append}
 use Rattle.std.proofs.Math.Seq.{take-set-lt, drop-append-add}
 use Rattle.records.specs.Records.{Record, rows, flat, laid_out, filter}

@@ -7,7 +7,7 @@ use Rattle.std.proofs.Math.Bool.{not, cond, not-not}
 use Rattle.std.specs.Bool.{beq}
 use Rattle.std.proofs.lemmas.Bool.{false≢true}
 use Rattle.std.proofs.Math.Path.{refl, ap, ap₂}
-use mathlib.Core.List.{map-append}
+use Rattle.std.proofs.lemmas.List.{map-append}
 use Rattle.std.proofs.Math.ListN.{length}
 use Rattle.reads.specs.Bits.{range}
 use Rattle.reads.proofs.BitsLaws.{range_split}

@@ -5,9 +5,8 @@ use Rattle.std.proofs.Math.Bool.{true, false, not, cond, not-not, and-eq-true_if
 use Rattle.std.specs.Bool.{beq}
 use Rattle.std.proofs.lemmas.Bool.{false≢true}
 use Rattle.std.proofs.Math.Path.{refl, ap}
-use mathlib.Core.List.{map-append}
 use Rattle.std.proofs.Math.ListN.{length, length-append}
-use Rattle.std.proofs.lemmas.List.{length-map, set_at, get_or_at}
+use Rattle.std.proofs.lemmas.List.{length-map, set_at, get_or_at, map-append}
 use Rattle.std.proofs.Math.Seq.{append_snoc, get_or-append-add}
 use Rattle.reads.specs.Reads.{Reads, done, value}
 use Rattle.reads.proofs.ReadsLaws.{value_bind}

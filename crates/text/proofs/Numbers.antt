@@ -1,6 +1,6 @@
 -- A number as the library writes it is the definition's text. Assumes nothing.
 use Rattle.std.proofs.Common.{ℕ, zero, suc, ◌-◌, ◌^◌, ◌≤◌, ◌<◌, arith, Bool, true, false, cond, List, ◌≡◌, refl, ap, ◌∙◌, ltb-true, ltb-false, ltb}
-use native.Mathlib.Nat.{pow-le-pow_right}
+use Rattle.std.proofs.Math.Nat.{pow-le-pow_right}
 use Rattle.io.specs.Digits.{last_digits, IsDigitCount}
 use Rattle.text.specs.Text.{places, decimal_of, hex_of}
 use Rattle.text.specs.TextLaws.{places_few}

@@ -1,6 +1,6 @@
 -- The corners of a record, one word after the other: k are put. Assumes nothing.
 use Rattle.std.proofs.Common.{ℕ, ◌+◌, ◌≤◌, ◌<◌, add-one, arith, List, [], ◌∷◌, ◌++◌, map, append-nil, ◌≡◌, sym, ap, ◌∙◌, length, get_or, take, drop, length-take, length-drop, take-suc, take_all}
-use mathlib.Core.List.{map-append}
+use Rattle.std.proofs.lemmas.List.{map-append}
 use Rattle.text.specs.Text.{hex_of}
 use Rattle.text.specs.TextClauses.{HasRoom, Wrote, Grown}
 use Rattle.text.specs.declared.Text.{Text}

@@ -1,6 +1,6 @@
 -- What a run prints, as text. Definitions only. Assumes nothing.
-use Rattle.std.specs.Prelude.{ℕ, ◌+◌, ◌*◌, cond, ◌||◌, ltb, length}
-use mathlib.Core.List.{List, [], ◌++◌, flat_map}
+use Rattle.std.specs.Prelude.{ℕ, ◌+◌, ◌*◌, cond, ◌||◌, ltb, length, List, [], ◌++◌}
+use mathlib.Core.List.{flat_map}
 use Rattle.records.specs.Records.{Record, rows}
 use Rattle.text_lines.specs.Lines.{report_line, record_line}
 

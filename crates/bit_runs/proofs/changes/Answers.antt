@@ -1,8 +1,9 @@
 -- `bit_runs::changes` meets its contract: the union of a word moved up and a bit has each bit's predecessor in its place.
-use Rattle.std.proofs.Common.{ℕ, zero, suc, ◌+◌, ◌-◌, ◌*◌, ◌/◌, ◌%◌, ◌^◌, ◌<◌, Bool, true, false, not, ◌≡◌, refl, sym, ap, ap₂, ◌∙◌, List, div-one, arith, eqb, get_or, shr-shr}
+use Rattle.std.proofs.Common.{ℕ, zero, suc, ◌+◌, ◌-◌, ◌*◌, ◌/◌, ◌%◌, ◌^◌, ◌<◌, Bool, true, false, not, ◌≡◌, refl, sym, ap, ap₂, ◌∙◌, List, div-one, arith, eqb, get_or, shr-shr, bit_or, bit_xor}
 use Rattle.std.proofs.Math.Bool.{xor}
 use Rattle.std.proofs.Math.Nat.{div-eq_of_lt}
-use lib.Bits.{bit_or, bit_xor, or_zero_r, or_shr, or_mod, xor_shr, xor_mod}
+use Rattle.std.proofs.lemmas.Nat.{or_shr, or_mod, xor_shr, xor_mod}
+use lib.Bits.{or_zero_r}
 use Rattle.std.proofs.Math.Pow.{field, mod-mod-pow, pow-lt, shl-shr}
 use Rattle.reads.specs.Bits.{digit, test_bit}
 use Rattle.reads.proofs.BitsLaws.{digit_low}

@@ -1,8 +1,9 @@
 -- `detector_boundary::calculate_simple_boundary` meets its contract: a sum or difference that fits, clamped, for each of the four.
-use Rattle.std.proofs.Common.{◌≡◌, ℕ, ◌+◌, ◌-◌, ◌/◌, ◌≤◌, ℤ, pos, ◌+ℤ◌, ◌-ℤ◌, nat_abs, sym, ap, ◌∙◌, ap₂, arith, w32, SFits, to_z}
+use Rattle.std.proofs.Common.{◌≡◌, ℕ, ◌+◌, ◌-◌, ◌/◌, ◌≤◌, ℤ, pos, ◌+ℤ◌, ◌-ℤ◌, nat_abs, sym, ap, ◌∙◌, ap₂, arith, w32, SFits, to_z, Float}
 use lib.Signed.{quot_z}
-use lib.Ieee.{Float, binary32, of_bits, of_int, add, sub, mul, div, to_signed}
-use mir.ValLaws.{to_z_pos}
+use Rattle.std.proofs.lemmas.Int.{to_z_pos}
+use Rattle.std.specs.Float.Ieee.{of_bits, of_int, add, sub, mul, div, to_signed}
+use Rattle.std.specs.Float.{binary32}
 use Rattle.bit_matrix.specs.declared.Shape.{Shape}
 use Rattle.rxing_result_point.specs.declared.PointU.{PointU}
 use Rattle.detector_boundary.specs.declared.Boundary.{Boundary}

@@ -1,9 +1,5 @@
 -- `detector_box::box_symbol` meets its contract: the turn's run, and what the other calls ensure.
-use Prim.Native.Nat.{ℕ, ◌<◌}
-use native.Mathlib.Omega.{arith}
-use mathlib.Core.Bool.{Bool}
-use mathlib.Core.List.{List}
-use mathlib.Core.Path.{◌≡◌}
+use Rattle.std.proofs.Common.{ℕ, ◌<◌, arith, Bool, List, ◌≡◌, rules}
 use Rattle.reads.specs.RunsClauses.{Ran}
 use Rattle.reads.proofs.RunsLaws.{ran_bind, ran_is, always_ran}
 use Rattle.bit_matrix.specs.declared.Shape.{Shape}
@@ -20,7 +16,6 @@ use Rattle.detector_turn.specs.ScalesLaws.{centered_of}
 use Rattle.detector_box.specs.Boxes.{turn_at, symbol_at}
 use Rattle.detector_box.specs.BoxesLaws.{turn_ended}
 use Rattle.detector_corners.specs.Corners.{corners_of}
-use borrow.Author.Rules.{rules}
 use Rattle.detector_box.proofs.box_symbol.Goals as goal
 
 placed : {shape : Shape} {words marks : List ℕ} {circle : Circle} {b : Boundary} → LentCircle shape words marks circle

@@ -1,9 +1,5 @@
 -- `detector_box::turn_of` meets its contract, by the option and the check's answer.
-use Prim.Native.Nat.{ℕ}
-use mathlib.Core.Bool.{Bool, true, false}
-use mathlib.Core.List.{List}
-use mathlib.Core.Path.{◌≡◌}
-use lib.ListN.{length}
+use Rattle.std.proofs.Common.{ℕ, Bool, true, false, List, ◌≡◌, length}
 use Rattle.reads.specs.RunsClauses.{Ran}
 use Rattle.reads.proofs.RunsLaws.{ran_bind, ran_done, ran_then, ran_else}
 use Rattle.bit_matrix.specs.declared.Shape.{Shape}

@@ -1,8 +1,5 @@
 -- `detector_boxes::box_record` meets its contract.
-use Prim.Native.Nat.{ℕ}
-use mathlib.Core.Path.{◌≡◌}
-use mathlib.Core.Bool.{Bool}
-use mathlib.Core.List.{List}
+use Rattle.std.proofs.Common.{ℕ, ◌≡◌, Bool, List}
 use Rattle.reads.specs.RunsClauses.{Ran}
 use Rattle.reads.proofs.RunsLaws.{ran_bind, ran_is}
 use Rattle.bit_matrix.specs.declared.Shape.{Shape}

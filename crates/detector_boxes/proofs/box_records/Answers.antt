@@ -1,14 +1,6 @@
 -- `detector_boxes::box_records` meets its contract.
-use Prim.Native.Nat.{ℕ, ◌+◌, ◌≤◌, ◌<◌, suc}
-use native.Mathlib.Nat.{add-zero}
-use native.Mathlib.Numerals.{add-one}
-use native.Mathlib.Omega.{arith}
-use mathlib.Core.Bool.{Bool}
-use mathlib.Core.Path.{◌≡◌, refl, sym, ap, ◌∙◌}
-use mathlib.Core.List.{List, [], ◌∷◌, ◌++◌}
-use borrow.Author.Rules.{rules}
-use lib.ListN.{length, get_or, take, drop, set}
-use lib.Seq.{take-suc-set, drop-set-lt, drop-cons, drop-drop, drop-length, take_all, get_or-drop}
+use Rattle.std.proofs.Common.{ℕ, ◌+◌, ◌≤◌, ◌<◌, suc, add-zero, add-one, arith, Bool, ◌≡◌, refl, sym, ap, ◌∙◌, List, [], ◌∷◌, ◌++◌, rules, length, get_or, take, drop, set, take-suc-set, drop-set-lt, drop-cons, drop-drop, take_all, get_or-drop}
+use Rattle.std.proofs.Math.Seq.{drop-length}
 use Rattle.reads.specs.RunsClauses.{Ran}
 use Rattle.reads.proofs.RunsLaws.{ran_done, resumes_start, resumes_step, resumes_end}
 use Rattle.bit_matrix.specs.declared.Shape.{Shape}

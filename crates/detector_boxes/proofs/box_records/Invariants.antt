@@ -1,10 +1,6 @@
 -- `detector_boxes::box_records` meets its contract. The invariant is `Boxing`: the records passed have their symbols, the others are as they were, and what
 -- is left of the definition ends as the whole does.
-use Prim.Native.Nat.{ℕ}
-use mathlib.Core.Bool.{Bool}
-use mathlib.Core.Path.{◌≡◌}
-use mathlib.Core.List.{List, []}
-use lib.ListN.{take, drop}
+use Rattle.std.proofs.Common.{ℕ, Bool, ◌≡◌, List, [], take, drop}
 use Rattle.reads.specs.RunsClauses.{Resumes}
 use Rattle.bit_matrix.specs.declared.Shape.{Shape}
 use Rattle.records.specs.Records.{rows}

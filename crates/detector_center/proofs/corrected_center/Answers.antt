@@ -1,8 +1,5 @@
 -- `detector_center::corrected_center` meets its contract: the walks' runs, one after the other.
-use Prim.Native.Nat.{ℕ}
-use mathlib.Core.List.{List}
-use mathlib.Core.Path.{◌≡◌, ap, ◌∙◌}
-use borrow.Author.Rules.{rules}
+use Rattle.std.proofs.Common.{ℕ, List, ◌≡◌, ap, ◌∙◌, rules}
 use Rattle.reads.specs.RunsClauses.{Ran}
 use Rattle.reads.proofs.RunsLaws.{ran_bind, ran_is}
 use Rattle.bit_matrix.specs.declared.Shape.{Shape}

@@ -1,7 +1,7 @@
 -- `detector_center::find_center` meets its contract: what the two calls ensure. The literal 2.0, which the code has by its pattern, is `real 2` once both are
 -- unfolded.
-use mathlib.Core.Path.{◌≡◌, ap, ◌∙◌}
-use lib.Ieee.{Float, of_bits, of_int}
+use Rattle.std.proofs.Common.{◌≡◌, ap, ◌∙◌, Float}
+use Rattle.std.specs.Float.Ieee.{of_bits, of_int}
 use Rattle.rxing_result_point.specs.declared.Point.{Point}
 use Rattle.detector_center.specs.Center.{find_center}
 use Rattle.detector_center.proofs.find_center.Goals as goal

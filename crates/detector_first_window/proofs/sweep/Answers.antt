@@ -1,6 +1,6 @@
 -- `detector_first_window::sweep` meets its contract.
 use Rattle.std.proofs.Common.{refl, arith, rules}
-use lib.Count.{trailing_le}
+use Rattle.std.proofs.lemmas.Nat.{trailing_le}
 use Rattle.detector_first_window.proofs.Sweeping.{begins, nothing_left, at_limit, refilled, fewer, short, window_fits, closes, onward}
 use Rattle.detector_first_window.proofs.sweep.Goals as goal
 

@@ -1,7 +1,6 @@
 -- `detector_points::get_adjusted_points` meets its contract: what the calls ensure, put together.
 use Rattle.detector_points.proofs.Cells.{cell_at, three_points}
-use Rattle.std.proofs.Common.{◌≡◌, length}
-use borrow.Author.Rules.{rules}
+use Rattle.std.proofs.Common.{◌≡◌, length, rules}
 use Rattle.detector_points.proofs.get_adjusted_points.Goals as goal
 
 pub adjust_point_alternate-requires : goal.adjust_point_alternate-requires

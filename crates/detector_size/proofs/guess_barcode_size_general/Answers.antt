@@ -1,6 +1,7 @@
 -- `detector_size::guess_barcode_size_general` meets its contract: its callees' equations, put together.
-use Rattle.std.proofs.Common.{ℕ, ◌≤◌, mul-le-mul, arith, ◌≡◌, ◌∙◌, ap}
-use lib.Ieee.{Float, binary64, mul, to_unsigned}
+use Rattle.std.proofs.Common.{ℕ, ◌≤◌, mul-le-mul, arith, ◌≡◌, ◌∙◌, ap, Float}
+use Rattle.std.specs.Float.Ieee.{mul, to_unsigned}
+use Rattle.std.specs.Float.{binary64}
 use Rattle.ieee.specs.Integral.{floor}
 use Rattle.detector_size.specs.declared.Size.{Size}
 use Rattle.detector_size.specs.Size.{ideal_side, guessed_size}

@@ -1,8 +1,7 @@
 -- `detector_symbol::symbol_fields` meets its contract: fourteen stores in a row, from word 26 to the last.
-use Rattle.std.proofs.Common.{◌≡◌, ℕ, ◌+◌, ◌≤◌, List, ◌++◌, length, take, set, ap, ◌∙◌, add-one, ◌*◌, sym, get_or, arith, append-nil}
+use Rattle.std.proofs.Common.{◌≡◌, ℕ, ◌+◌, ◌≤◌, List, ◌++◌, length, take, set, ap, ◌∙◌, add-one, ◌*◌, sym, get_or, arith, append-nil, drop_of_length-le}
 use mathlib.Core.List.{flat_map}
-use lib.ListN.{drop_of_length-le}
-use lib.Seq.{sets, sets-eq}
+use Rattle.std.proofs.lemmas.List.Edits.{sets, sets-eq}
 use Rattle.detector_outcome.specs.Outcomes.{outcome_number, scale_of, rotation_bits}
 use Rattle.detector_symbol.specs.declared.Symbol.{Symbol}
 use Rattle.std.specs.Float.{nan}

@@ -1,10 +1,6 @@
 -- `detector_turn::attempt_rotation_box` meets its contract: the degrees' run, at the points that the other calls give.
 use Rattle.std.specs.Prelude.{Option}
-use Prim.Native.Nat.{ℕ}
-use mathlib.Core.List.{List}
-use mathlib.Core.Path.{◌≡◌}
-use lib.Dec.{T}
-use lib.Ieee.{Float}
+use Rattle.std.proofs.Common.{ℕ, List, ◌≡◌, T, Float, rules}
 use Rattle.reads.specs.RunsClauses.{Ran}
 use Rattle.bit_matrix.specs.declared.Shape.{Shape}
 use Rattle.rxing_result_point.specs.declared.PointU.{PointU}
@@ -19,7 +15,6 @@ use Rattle.detector_degrees.specs.Degrees.{try_degrees}
 use Rattle.detector_turn.specs.Scales.{attempt_rotation_box}
 use Rattle.detector_turn.specs.ScalesClauses.{LentCircle}
 use Rattle.detector_turn.specs.ScalesLaws.{centered_of}
-use borrow.Author.Rules.{rules}
 use Rattle.detector_turn.proofs.attempt_rotation_box.Goals as goal
 
 placed : {shape : Shape} {words marks : List ℕ} {circle : Circle} (scale : Float) {b : Boundary}

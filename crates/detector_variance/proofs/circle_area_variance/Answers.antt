@@ -1,6 +1,7 @@
 -- `detector_variance::circle_area_variance` meets its contract.
 use Rattle.std.proofs.Common.{ap₂}
-use lib.Ieee.{binary32, add}
+use Rattle.std.specs.Float.Ieee.{add}
+use Rattle.std.specs.Float.{binary32}
 use Rattle.detector_variance.specs.Variance.{area_variance}
 use Rattle.detector_variance.proofs.circle_area_variance.Goals as goal
 

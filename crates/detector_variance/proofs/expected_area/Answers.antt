@@ -1,6 +1,7 @@
 -- `detector_variance::expected_area` meets its contract.
-use Rattle.std.proofs.Common.{◌/◌, ◌≤◌, ap, mul-le-mul, arith}
-use lib.Ieee.{Float, binary32, mul, of_bits}
+use Rattle.std.proofs.Common.{◌/◌, ◌≤◌, ap, mul-le-mul, arith, Float}
+use Rattle.std.specs.Float.Ieee.{mul, of_bits}
+use Rattle.std.specs.Float.{binary32}
 use Rattle.detector_variance.specs.Variance.{expected_area}
 use Rattle.detector_variance.proofs.expected_area.Goals as goal
 

@@ -1,6 +1,7 @@
 -- `detector_variance::further_by` meets its contract.
-use Rattle.std.proofs.Common.{ap, ◌∙◌}
-use lib.Ieee.{Float, binary32, add, sub}
+use Rattle.std.proofs.Common.{ap, ◌∙◌, Float}
+use Rattle.std.specs.Float.Ieee.{add, sub}
+use Rattle.std.specs.Float.{binary32}
 use Rattle.ieee.specs.Sign.{abs}
 use Rattle.detector_variance.specs.Variance.{further}
 use Rattle.detector_variance.proofs.further_by.Goals as goal

@@ -1,6 +1,6 @@
 -- `detector_variances::set_variances` meets its contract.
 use Rattle.detector_variances.proofs.Varying.{begins, small, onward, over}
-use borrow.Author.Rules.{rules}
+use Rattle.std.proofs.Common.{rules}
 use Rattle.detector_variances.proofs.set_variances.Goals as goal
 
 pub loop-i-init : goal.loop-i-init

@@ -1,17 +1,8 @@
 -- `detector_walks::along` meets its contract: the numbers are listed one after another.
-use Prim.Native.Nat.{ℕ, ◌+◌, ◌%◌, ◌^◌, ◌≤◌, ◌<◌}
-use mathlib.Core.Bool.{false}
-use mathlib.Core.List.{List}
-use mathlib.Core.Logic.{inl, inr}
-use mathlib.Core.Path.{◌≡◌, refl, sym, ap, ◌∙◌}
-use native.Mathlib.Nat.{eq-or-lt_of_le, mod-lt, mod-eq_of_lt}
-use native.Mathlib.Omega.{arith}
-use borrow.Author.Rules.{rules, read_below}
-use lib.Dec.{T, lit<}
-use lib.IntN.{pos}
-use lib.Ieee.{Float, fin, binary32, add, mul, lt, in_float}
-use lib.ListN.{get_or, set, length-set, replicate}
-use lib.Seq.{get_or-set_same}
+use Rattle.std.proofs.Common.{ℕ, ◌+◌, ◌%◌, ◌^◌, ◌≤◌, ◌<◌, false, List, inl, inr, ◌≡◌, refl, sym, ap, ◌∙◌, eq-or-lt_of_le, mod-lt, mod-eq_of_lt, arith, rules, T, lit<, pos, Float, get_or, set, length-set, replicate, get_or-set_same}
+use borrow.Author.Rules.{read_below}
+use Rattle.std.specs.Float.Ieee.{add, mul, lt, in_float}
+use Rattle.std.specs.Float.{fin, binary32}
 use Rattle.ieee.specs.Sign.{abs}
 use Rattle.ieee.specs.BetweenLaws.{Between}
 use Rattle.rxing_result_point.specs.Points.{real, past}

@@ -1,7 +1,5 @@
 -- `detector_walks::back` meets its contract.
-use Prim.Native.Nat.{ℕ, ◌-◌, ◌<◌}
-use mathlib.Core.Logic.{◌≢◌}
-use native.Mathlib.Omega.{arith}
+use Rattle.std.proofs.Common.{ℕ, ◌-◌, ◌<◌, ◌≢◌, arith}
 use Rattle.detector_walks.proofs.back.Invariants.{begins, ends_at_0, onward, stops}
 use Rattle.detector_walks.proofs.back.Goals as goal
 

@@ -1,13 +1,7 @@
 -- `detector_walks::back` meets its contract. The invariant is `Walking`: from the present column, what is left of the definition ends as the whole does.
 -- The measure is the column.
-use Prim.Native.Nat.{ℕ, suc, ◌-◌, ◌^◌, ◌≤◌, ◌<◌}
-use mathlib.Core.Bool.{Bool, true, false, cond}
-use mathlib.Core.List.{List}
-use mathlib.Core.Logic.{◌≢◌}
-use mathlib.Core.Path.{◌≡◌, ◌∙◌}
-use native.Mathlib.Decide.{ℕ_discrete}
-use native.Mathlib.Omega.{arith}
-use lib.ListN.{length}
+use Rattle.std.proofs.Common.{ℕ, suc, ◌-◌, ◌^◌, ◌≤◌, ◌<◌, Bool, true, false, cond, List, ◌≢◌, ◌≡◌, ◌∙◌, arith, length}
+use Rattle.std.proofs.Math.Decide.{ℕ_discrete}
 use Rattle.reads.specs.Reads.{done}
 use Rattle.reads.specs.RunsClauses.{Ran, Resumes}
 use Rattle.reads.proofs.RunsLaws.{ran_done, ran_is, resumes_start, resumes_step, resumes_then, resumes_else, resumes_end}

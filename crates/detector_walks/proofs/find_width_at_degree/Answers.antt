@@ -1,9 +1,6 @@
 -- `detector_walks::find_width_at_degree` meets its contract: the walks' runs, one after the other.
-use Prim.Native.Nat.{ℕ, ◌+◌, ◌≤◌, ◌<◌}
-use native.Mathlib.Omega.{arith}
-use mathlib.Core.Bool.{true, false}
-use mathlib.Core.List.{List}
-use mathlib.Core.Path.{◌≡◌, subst⁻¹}
+use Rattle.std.proofs.Common.{ℕ, ◌+◌, ◌≤◌, ◌<◌, arith, true, false, List, ◌≡◌, rules}
+use Rattle.std.proofs.Math.Path.{subst⁻¹}
 use Rattle.reads.specs.RunsClauses.{Ran}
 use Rattle.reads.proofs.RunsLaws.{ran_bind, ran_is, always_ran}
 use Rattle.bit_matrix.specs.declared.Shape.{Shape}
@@ -15,7 +12,6 @@ use Rattle.detector_walks.specs.WalksClauses.{OfDegree, Lent}
 use Rattle.detector_walks.specs.declared.Width.{Width}
 use Rattle.detector_walks.specs.StepsLaws.{steps_right}
 use Rattle.detector_walks.specs.WalksLaws.{EndsAt, left_ends, right_ends}
-use borrow.Author.Rules.{rules}
 use Rattle.detector_walks.proofs.find_width_at_degree.Goals as goal
 
 of_degree : (degree : ℕ) {angle : Angle} → angle ≡ angle_of degree → OfDegree angle

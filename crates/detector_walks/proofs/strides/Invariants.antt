@@ -1,11 +1,6 @@
 -- `detector_walks::strides` meets its contract. The invariant is `Walking`: from the present column, what is left of the definition ends as the whole does.
 -- The measure is the columns up to the one where the walk has ended at the latest, past which no stride ends.
-use Prim.Native.Nat.{ℕ, ◌+◌, ◌-◌, ◌^◌, ◌≤◌, ◌<◌}
-use mathlib.Core.Bool.{false}
-use mathlib.Core.List.{List}
-use mathlib.Core.Path.{◌≡◌, refl, ◌∙◌}
-use native.Mathlib.Omega.{arith}
-use lib.ListN.{length}
+use Rattle.std.proofs.Common.{ℕ, ◌+◌, ◌-◌, ◌^◌, ◌≤◌, ◌<◌, false, List, ◌≡◌, refl, ◌∙◌, arith, length}
 use Rattle.reads.specs.Reads.{Reads}
 use Rattle.reads.specs.RunsClauses.{Ran, Resumes}
 use Rattle.reads.proofs.RunsLaws.{resumes_start}

@@ -1,7 +1,5 @@
 -- `detector_walks::strides_back` meets its contract.
-use Prim.Native.Nat.{ℕ, ◌-◌, ◌≤◌, ◌<◌}
-use native.Mathlib.Omega.{arith}
-use borrow.Author.Rules.{rules}
+use Rattle.std.proofs.Common.{ℕ, ◌-◌, ◌≤◌, ◌<◌, arith, rules}
 use Rattle.detector_walks.proofs.strides_back.Invariants.{begins, ends, enough, onward, stops}
 use Rattle.detector_walks.proofs.strides_back.Goals as goal
 

@@ -1,11 +1,6 @@
 -- `detector_walks::strides_back` meets its contract. The invariant is `Walking`: from the present column, what is left of the definition ends as the whole
 -- does. The measure is the column.
-use Prim.Native.Nat.{ℕ, ◌-◌, ◌^◌, ◌≤◌, ◌<◌}
-use mathlib.Core.List.{List}
-use mathlib.Core.Bool.{true}
-use mathlib.Core.Path.{◌≡◌, refl, ◌∙◌}
-use native.Mathlib.Omega.{arith}
-use lib.ListN.{length}
+use Rattle.std.proofs.Common.{ℕ, ◌-◌, ◌^◌, ◌≤◌, ◌<◌, List, true, ◌≡◌, refl, ◌∙◌, arith, length}
 use Rattle.reads.specs.RunsClauses.{Ran, Resumes}
 use Rattle.reads.proofs.RunsLaws.{resumes_start, resumes_end}
 use Rattle.bit_matrix.specs.declared.Shape.{Shape}

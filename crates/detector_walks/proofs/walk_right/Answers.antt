@@ -1,10 +1,5 @@
 -- `detector_walks::walk_right` meets its contract: the first steps, and the strides that follow unless they have ended the walk.
-use Prim.Native.Nat.{ℕ, ◌+◌, ◌^◌, ◌≤◌, ◌<◌}
-use mathlib.Core.Bool.{false}
-use mathlib.Core.List.{List}
-use mathlib.Core.Path.{◌≡◌, refl}
-use native.Mathlib.Omega.{arith}
-use borrow.Author.Rules.{rules}
+use Rattle.std.proofs.Common.{ℕ, ◌+◌, ◌^◌, ◌≤◌, ◌<◌, false, List, ◌≡◌, refl, arith, rules}
 use Rattle.reads.specs.RunsClauses.{Ran, Resumes}
 use Rattle.reads.proofs.RunsLaws.{resumes_start, resumes_end}
 use Rattle.bit_matrix.specs.declared.Shape.{Shape}

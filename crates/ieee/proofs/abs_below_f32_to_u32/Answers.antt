@@ -1,6 +1,7 @@
 -- `ieee::abs_below_f32_to_u32` meets its contract: the whole part stands in the digits of the pattern (`Below.antt`).
-use Rattle.std.proofs.Common.{◌/◌, ◌%◌, ◌^◌, not, T, sym, ap, ◌∙◌, subst}
-use lib.Ieee.{Float, binary64, is_nan, of_bits, to_bits}
+use Rattle.std.proofs.Common.{◌/◌, ◌%◌, ◌^◌, not, T, sym, ap, ◌∙◌, subst, Float, is_nan, to_bits}
+use Rattle.std.specs.Float.Ieee.{of_bits}
+use Rattle.std.specs.Float.{binary64}
 use Rattle.ieee.proofs.Below.{Below, below, more}
 use Rattle.ieee.proofs.abs_below_f32_to_u32.Goals as goal
 

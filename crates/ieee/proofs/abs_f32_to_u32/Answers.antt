@@ -1,6 +1,7 @@
 -- `ieee::abs_f32_to_u32` meets its contract.
-use Rattle.std.proofs.Common.{T, sym, ap, ◌∙◌, subst}
-use lib.Ieee.{Float, fin, lt, of_bits, to_unsigned}
+use Rattle.std.proofs.Common.{T, sym, ap, ◌∙◌, subst, Float}
+use Rattle.std.specs.Float.Ieee.{lt, of_bits, to_unsigned}
+use Rattle.std.specs.Float.{fin}
 use Rattle.std.proofs.Common.{false, pos}
 use Rattle.ieee.proofs.Std.{std_abs}
 use Rattle.ieee.proofs.abs_f32_to_u32.Goals as goal

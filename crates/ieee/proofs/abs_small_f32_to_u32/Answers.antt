@@ -1,7 +1,8 @@
 -- `ieee::abs_small_f32_to_u32` meets its contract: 2 ^ 23 more than the size is the whole part or one above it, and the test tells which
 -- (`Small.antt`).
-use Rattle.std.proofs.Common.{◌-◌, ◌%◌, ◌^◌, ◌≤◌, not, T, sym, ap, ◌∙◌, subst}
-use lib.Ieee.{Float, binary32, lt, is_nan, of_bits, to_bits}
+use Rattle.std.proofs.Common.{◌-◌, ◌%◌, ◌^◌, ◌≤◌, not, T, sym, ap, ◌∙◌, subst, Float, is_nan, to_bits}
+use Rattle.std.specs.Float.Ieee.{lt, of_bits}
+use Rattle.std.specs.Float.{binary32}
 use mir.Val.{bool_byte}
 use Rattle.ieee.proofs.Small.{Small, small, moved, back}
 use Rattle.ieee.proofs.abs_small_f32_to_u32.Goals as goal

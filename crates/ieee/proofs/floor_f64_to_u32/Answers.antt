@@ -1,6 +1,7 @@
 -- `ieee::floor_f64_to_u32` meets its contract.
 use Rattle.std.proofs.Common.{ap, ◌∙◌}
-use lib.Ieee.{binary64, to_unsigned}
+use Rattle.std.specs.Float.Ieee.{to_unsigned}
+use Rattle.std.specs.Float.{binary64}
 use Rattle.ieee.proofs.Std.{std_floor}
 use Rattle.ieee.proofs.floor_f64_to_u32.Goals as goal
 

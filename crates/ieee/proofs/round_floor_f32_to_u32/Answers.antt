@@ -1,6 +1,7 @@
 -- `ieee::round_floor_f32_to_u32` meets its contract.
 use Rattle.std.proofs.Common.{ap, ◌∙◌}
-use lib.Ieee.{binary32, to_unsigned}
+use Rattle.std.specs.Float.Ieee.{to_unsigned}
+use Rattle.std.specs.Float.{binary32}
 use Rattle.ieee.specs.Integral.{floor}
 use Rattle.ieee.proofs.Std.{std_floor, std_round}
 use Rattle.ieee.proofs.round_floor_f32_to_u32.Goals as goal

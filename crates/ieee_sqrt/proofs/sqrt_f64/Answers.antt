@@ -1,6 +1,6 @@
 -- `ieee_sqrt::sqrt_f64` meets its contract: std's root is `sqrt`.
 use Rattle.std.proofs.Common.{T, sym, ◌∙◌, subst}
-use lib.Ieee.{binary64}
+use Rattle.std.specs.Float.{binary64}
 use Rattle.ieee_sqrt.proofs.Sqrt.{std_sqrt}
 use Rattle.ieee_sqrt.proofs.sqrt_f64.Goals as goal
 

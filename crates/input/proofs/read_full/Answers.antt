@@ -1,6 +1,5 @@
 -- `input::read_full` meets its contract.
-use Rattle.std.proofs.Common.{arith, refl}
-use borrow.Author.Rules.{rules}
+use Rattle.std.proofs.Common.{arith, refl, rules}
 use Rattle.std.proofs.KnownBytes.{Consumes-nil}
 use Rattle.input.proofs.Filled.{consumes_filled}
 use Rattle.input.proofs.read_full.Goals as goal
