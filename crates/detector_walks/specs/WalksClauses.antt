@@ -27,10 +27,14 @@ pub record OfDegree (angle : Angle) : Type 0 where
 abbrev pub cell_at : Float → ℕ → ℕ → ℕ → ℕ
 cell_at factor c place x = to_unsigned 32 (abs (add binary32 (mul binary32 factor (past c x)) (real place)))
 
--- the first n of 32 numbers are those of the columns from x on
-pub record Along (factor : Float) (c place x n : ℕ) (cells : List ℕ) : Type 0 where
+-- the column i steps from column x on, to the left or to the right
+abbrev pub column : Bool → ℕ → ℕ → ℕ
+column left x i = cond left (x - i) (x + i)
+
+-- the first n of 32 numbers are those of the columns from x on, to the left or to the right
+pub record Along (left : Bool) (factor : Float) (c place x n : ℕ) (cells : List ℕ) : Type 0 where
   pub all : length cells ≡ 32
-  pub at : (i : ℕ) → i < n → get_or cells i 0 ≡ cell_at factor c place (x + i)
+  pub at : (i : ℕ) → i < n → get_or cells i 0 ≡ cell_at factor c place (column left x i)
 
 -- n steps by a test, from x on: the first number of which it does not hold, or x + n
 module _ (test : ℕ → Reads Bool) where
@@ -41,17 +45,6 @@ module _ (test : ℕ → Reads Bool) where
 -- the test of the point i columns to the left of column x
 abbrev pub white_back : Shape → PointU → Angle → ℕ → ℕ → Reads Bool
 white_back shape center angle x i = white_point shape (walk_point center angle (x - i))
-
--- the column i steps from column x on, to the left or to the right
-abbrev pub column : Bool → ℕ → ℕ → ℕ
-column left x i = cond left (x - i) (x + i)
-
--- the lowest of the 32 columns from column x on, and where the column i steps on stands among them
-abbrev pub lowest : Bool → ℕ → ℕ
-lowest left x = cond left (x - 31) x
-
-abbrev pub place : Bool → ℕ → ℕ
-place left i = cond left (31 - i) i
 
 -- k of n steps from column x on are taken: as a count to the left, and as the column where they end to the right
 pub record Taken (left : Bool) (shape : Shape) (center : PointU) (angle : Angle) (n x : ℕ) (words marks : List ℕ) (k : ℕ) (marks' : List ℕ) : Type 0 where

@@ -8,7 +8,7 @@ ghost use Rattle.bit_matrix.specs.ShapeClauses.{Image, Inside};
 ghost use Rattle.ieee.specs.Sign.{abs};
 ghost use Rattle.ieee.specs.BetweenLaws.{Between};
 ghost use Rattle.detector_walks.specs.Walks.{walk_point, white_pixel, white_point, left_from, right_from, walk, width_of, find_width_at_degree};
-ghost use Rattle.detector_walks.specs.WalksClauses.{OfDegree, Along, column, lowest, place, Taken, steps_remaining, Lent};
+ghost use Rattle.detector_walks.specs.WalksClauses.{OfDegree, Along, column, Taken, steps_remaining, Lent};
 ghost use Rattle.detector_walks.specs.StepsLaws.{steps_right};
 
 use bit_matrix::Shape;
@@ -118,37 +118,22 @@ fn step<const LEFT: bool>(
     16
 }
 
-// Where the points of 32 columns from x on lie along one axis: whole columns with the cosine and the centre's column as its place, whole rows with the
+// Where the points of the 32 columns from x on lie along one axis: whole columns with the cosine and the centre's column as its place, whole rows with the
 // sine and the centre's row. Nothing is read in between, so that they are worked out side by side. The remainder changes no column; it tells the compiler
 // that each is below 2 ^ 21, so that the cast to f32 is one operation.
-fn along(factor: f32, center_x: u32, place: u32, x: u32) -> [u32; 32]
-    requires { Between 0 1 (abs factor) × (center_x < 2 ^ 11) × (place < 2 ^ 11) × (x < 2 ^ 20 + 2 ^ 12) }
-    ensures { Along factor center_x place x 32 result }
+fn along<const LEFT: bool>(factor: f32, center_x: u32, place: u32, x: u32) -> [u32; 32]
+    requires { Between 0 1 (abs factor) × (center_x < 2 ^ 11) × (place < 2 ^ 11) × (LEFT ≡ true → 32 ≤ x) × (x < 2 ^ 20 + 2 ^ 12) }
+    ensures { Along LEFT factor center_x place x 32 result }
 {
     let cx = center_x as f32;
     let p = place as f32;
     let mut cells = [0u32; 32];
     for i in 0..32 {
-        let u = ((x + i as u32) % 0x20_0000) as f32 - cx;
+        let at = column::<LEFT>(x, i as u32);
+        let u = (at % 0x20_0000) as f32 - cx;
         cells[i] = ieee::abs_small_f32_to_u32(factor * u + p);
     }
     cells
-}
-
-// The lowest of the 32 columns from column x on.
-fn lowest<const LEFT: bool>(x: u32) -> u32
-    requires { LEFT ≡ true → 32 ≤ x }
-    ensures { result ≡ lowest LEFT x }
-{
-    if LEFT { x - 31 } else { x }
-}
-
-// Where the column i steps on stands among them.
-fn place<const LEFT: bool>(i: usize) -> usize
-    requires { i < 32 }
-    ensures { (result ≡ place LEFT i) × (result < 32) }
-{
-    if LEFT { 31 - i } else { i }
 }
 
 // How many of 32 steps from column x the walk takes.
@@ -163,12 +148,10 @@ fn stride<const LEFT: bool>(
     requires { Image shape words.now marks.old × Inside shape center.x center.y × OfDegree angle × (LEFT ≡ true → 32 ≤ x) × (x < 2 ^ 20 + 2 ^ 12) }
     ensures { Taken LEFT shape center angle 32 x words.now marks.old result marks.new }
 {
-    let first = lowest::<LEFT>(x);
-    let columns = along(angle.cos, center.x, center.x, first);
-    let rows = along(angle.sin, center.x, center.y, first);
+    let columns = along::<LEFT>(angle.cos, center.x, center.x, x);
+    let rows = along::<LEFT>(angle.sin, center.x, center.y, x);
     for i in 0..32 {
-        let k = place::<LEFT>(i);
-        if !is_white(words, marks, shape, columns[k], rows[k]) {
+        if !is_white(words, marks, shape, columns[i], rows[i]) {
             return i as u32;
         }
     }
