@@ -1,9 +1,7 @@
 -- A number is the least, or the greatest, below a bound of which a test holds. Assumes nothing.
-use Prim.Native.Nat.{ℕ, zero, suc, ◌≤◌, ◌<◌}
-use native.Mathlib.Decide.{ℕ_discrete}
-use native.Mathlib.Omega.{arith}
-use mathlib.Core.Bool.{Bool, true, false, cond, false≢true}
-use mathlib.Core.Path.{◌≡◌, refl, sym, ap, ◌∙◌}
+use Rattle.std.proofs.Common.{ℕ, zero, suc, ◌≤◌, ◌<◌, arith, Bool, true, false, cond, ◌≡◌, refl, sym, ap, ◌∙◌}
+use Rattle.std.proofs.lemmas.Bool.{false≢true}
+use Rattle.std.proofs.Math.Decide.{ℕ_discrete}
 use Rattle.bit_matrix_rectangle.specs.Rectangle.{least_below, greatest_below}
 use Rattle.bit_matrix_rectangle.specs.ExtremesLaws.{least_le, le_greatest}
 

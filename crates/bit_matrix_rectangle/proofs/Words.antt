@@ -1,16 +1,10 @@
 -- The pixels of an accepted image by its words, and the first and last set bit of a word. Assumes nothing.
-use Prim.Native.Nat.{ℕ, suc, ◌+◌, ◌*◌, ◌-◌, ◌/◌, ◌%◌, ◌^◌, ◌≤◌, ◌<◌}
-use native.Mathlib.Nat.{pow-suc}
-use native.Mathlib.Decide.{dec_lt}
-use native.Mathlib.Omega.{arith}
-use mathlib.Core.Bool.{true, false, not, false≢true}
-use mathlib.Core.List.{List}
-use mathlib.Core.Path.{◌≡◌, refl, sym, ap, ap₂, ◌∙◌}
-use borrow.Author.Tests.{eq-eqb, ne_eqb, eqb-true, eqb-false, not-true, not-false}
-use lib.Count.{count_leading_zeros, count_trailing_zeros, leading_top}
-use lib.Dec.{eqb}
-use lib.ListN.{get_or}
-use lib.Pow.{high}
+use Rattle.std.proofs.Common.{ℕ, suc, ◌+◌, ◌*◌, ◌-◌, ◌/◌, ◌%◌, ◌^◌, ◌≤◌, ◌<◌, pow-suc, arith, true, false, not, List, ◌≡◌, refl, sym, ap, ap₂, ◌∙◌, eq-eqb, ne_eqb, eqb-true, eqb, get_or}
+use Rattle.std.proofs.Math.Pow.{high}
+use Rattle.std.proofs.lemmas.Nat.{leading_top}
+use Rattle.std.proofs.lemmas.Bool.{false≢true, eqb-false, not-true, not-false}
+use Rattle.std.proofs.Math.Decide.{dec_lt}
+use lib.Count.{count_leading_zeros, count_trailing_zeros}
 use Rattle.reads.specs.Bits.{test_bit, bit_at}
 use Rattle.reads.proofs.BitsLaws.{test_zero}
 use Rattle.bit_matrix.specs.declared.Shape.{Shape}

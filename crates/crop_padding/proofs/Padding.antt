@@ -1,14 +1,6 @@
 -- A row's padding by the number that the code tests. Assumes nothing.
-use Prim.Native.Nat.{ℕ, zero, suc, ◌+◌, ◌*◌, ◌-◌, ◌/◌, ◌%◌, ◌^◌, ◌≤◌, ◌<◌}
-use native.Mathlib.Nat.{mod-eq_of_lt}
-use native.Mathlib.Omega.{arith}
-use mathlib.Core.Bool.{Bool, true, false}
-use mathlib.Core.List.{List}
-use mathlib.Core.Path.{◌≡◌, refl, sym, ap₂, ap, subst, ◌∙◌}
-use lib.ListN.{get_or}
-use lib.Pow.{shr_lt}
 use Rattle.std.specs.List.{list_any, range_with_len}
-use Rattle.std.proofs.Common.{◌||◌, below_more}
+use Rattle.std.proofs.Common.{◌||◌, below_more, ℕ, zero, suc, ◌+◌, ◌*◌, ◌-◌, ◌/◌, ◌%◌, ◌^◌, ◌≤◌, ◌<◌, mod-eq_of_lt, arith, Bool, true, false, List, ◌≡◌, refl, sym, ap₂, ap, subst, ◌∙◌, get_or, shr_lt}
 use Rattle.reads.specs.Bits.{test_bit, bit_at}
 use Rattle.bit_matrix.specs.Shape.{row_words}
 use Rattle.crop_sizes.specs.Sizes.{row_bytes}

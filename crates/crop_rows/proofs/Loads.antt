@@ -1,10 +1,9 @@
 -- Bytes put together as one word. Assumes nothing.
 use Rattle.std.specs.Prelude.{ℕ, zero, suc, ◌+◌, ◌*◌, ◌/◌, ◌%◌, ◌^◌, ◌≤◌, ◌<◌, List, ◌≡◌, refl, bit_or, get_or}
 use Rattle.std.specs.Int.{sum_through, byte_worth}
-use Rattle.std.proofs.Common.{arith, sym, ap, ap₂, ◌∙◌, add_comm, pow-add}
+use Rattle.std.proofs.Common.{arith, sym, ap, ap₂, ◌∙◌, add_comm, pow-add, shl_exact}
 use Rattle.std.proofs.Math.Nat.{pow-suc}
 use lib.Bits.{or_shifted_r}
-use lib.Pow.{shl_exact}
 use Rattle.reads.specs.Bits.{test_bit}
 use Rattle.crop_padding.specs.Below.{number}
 use Rattle.crop_rows.specs.Bytes.{byte_bit}

@@ -1,14 +1,9 @@
 -- Bits of a 64-bit word whose neighbouring groups of d bits change places, by a mask of every other group. Assumes nothing.
-use Prim.Native.Nat.{ℕ, zero, suc, ◌+◌, ◌*◌, ◌-◌, ◌/◌, ◌%◌, ◌^◌, ◌≤◌, ◌<◌}
-use native.Mathlib.Nat.{mul-mod_left}
-use native.Mathlib.Decide.{dec_lt}
-use native.Mathlib.Omega.{arith}
-use mathlib.Core.Bool.{Bool, true, false, not, cond, ◌||◌, ◌&&◌}
-use mathlib.Core.Path.{◌≡◌, refl, sym, ap, ap₂, ◌∙◌}
-use borrow.Author.Tests.{lt-ltb, le-ltb}
-use lib.Bits.{bit_and, and_shr, and_mod}
-use lib.Dec.{eqb, ltb}
-use lib.Pow.{field, mod-mod-pow, shl-shr, shr-shr}
+use Rattle.std.proofs.Common.{ℕ, zero, suc, ◌+◌, ◌*◌, ◌-◌, ◌/◌, ◌%◌, ◌^◌, ◌≤◌, ◌<◌, arith, Bool, true, false, not, cond, ◌||◌, ◌&&◌, ◌≡◌, refl, sym, ap, ap₂, ◌∙◌, lt-ltb, le-ltb, bit_and, eqb, ltb, shr-shr}
+use Rattle.std.proofs.Math.Pow.{field, mod-mod-pow}
+use Rattle.std.proofs.lemmas.Nat.{and_shr, and_mod, shl-shr}
+use Rattle.std.proofs.Math.Decide.{dec_lt}
+use Rattle.std.proofs.Math.Nat.{mul-mod_left}
 use Rattle.reads.specs.Bits.{test_bit}
 use Rattle.reads.proofs.BitsLaws.{test_or}
 use Rattle.crop_padding.specs.NumberLaws.{low_clear, test_shr}

@@ -2,7 +2,7 @@
 use Rattle.std.specs.Prelude.{ℕ, suc, ◌≤◌, Bool, true, false, cond, ◌||◌, ◌≡◌, refl, ltb}
 use Rattle.std.proofs.Common.{le_trans, arith, true≢false}
 use Rattle.std.proofs.Math.Path.{subst⁻¹}
-use borrow.Author.Tests.{ltb-false, eqb-true, not-false}
+use Rattle.std.proofs.lemmas.Bool.{ltb-false, eqb-true, not-false}
 use Rattle.bit_matrix.specs.declared.Shape.{Shape}
 use Rattle.bit_matrix.specs.Shape.{row_words, shape_of, size}
 use Rattle.bit_matrix.specs.ShapeClauses.{Limits}

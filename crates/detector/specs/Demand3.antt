@@ -2,10 +2,10 @@
 -- that agree at every bit that the first run marked: both runs report the same and leave the same records and marks, whichever the answer. And a stored bit
 -- is marked exactly when the steps, at the capacity lent and under the call's setting, read it.
 -- A file's bits are those of its unpacked words. An entry has its part by one lemma, that its run is one of an accepted image. Assumes nothing.
-use Rattle.std.specs.Prelude.{ℕ, ◌/◌, ◌<◌, Bool, true, ◌↔◌, ◌≡◌}
+use Rattle.std.specs.Prelude.{ℕ, ◌/◌, ◌<◌, Bool, true, ◌↔◌, ◌≡◌, List}
 use Rattle.std.proofs.Math.Path.{sym, ap₂, subst}
 use Rattle.std.proofs.Common.{ap, ◌∙◌}
-use mathlib.Core.List.{List, Memᴰ}
+use mathlib.Core.List.{Memᴰ}
 use Rattle.std.proofs.Math.ListN.{length}
 use Rattle.std.proofs.lemmas.List.{length-replicate}
 use Rattle.reads.specs.Reads.{trace}

@@ -1,11 +1,6 @@
 -- The parts of a search, put together. Assumes nothing.
-use Prim.Native.Nat.{ℕ, ◌+◌, ◌-◌, ◌*◌, ◌≤◌, min}
-use native.Mathlib.Nat.{min-eq_left}
-use native.Mathlib.Omega.{arith}
-use mathlib.Core.Path.{◌≡◌, refl, sym, ap, ap₂, ◌∙◌}
-use mathlib.Core.List.{List, [], ◌++◌, append_assoc}
-use lib.ListN.{length, drop, take-append-drop}
-use lib.Seq.{take_all, drop_at, length-take-le}
+use Rattle.std.proofs.Common.{ℕ, ◌+◌, ◌-◌, ◌*◌, ◌≤◌, min, arith, ◌≡◌, refl, sym, ap, ap₂, ◌∙◌, List, [], ◌++◌, append_assoc, length, drop, take-append-drop, take_all, drop_at, length-take-le}
+use Rattle.std.proofs.Math.Nat.{min-eq_left}
 use Rattle.reads.specs.Reads.{Reads}
 use Rattle.reads.specs.Bits.{bit_at, zeros}
 use Rattle.reads.specs.Runs.{value_of}

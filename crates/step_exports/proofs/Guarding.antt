@@ -1,14 +1,7 @@
 -- How a step keeps its promise, and the laws of its tests and results. Assumes nothing.
-use Prim.Native.Nat.{ℕ, zero, suc, ◌+◌, ◌*◌, ◌≤◌, ◌<◌}
-use native.Mathlib.Omega.{arith}
-use mathlib.Core.Bool.{Bool, true, false, ◌&&◌, true≢false}
-use mathlib.Core.Path.{◌≡◌, refl, sym, ap, ap₂, subst, ◌∙◌}
-use mathlib.Core.List.{List, [], ◌∷◌}
-use borrow.Author.Tests.{eqb-true, eq-eqb, ltb-true, lt-ltb}
-use lib.Dec.{T, eqb, ltb}
-use lib.ListN.{length, take, drop}
-use lib.Seq.{get_or-drop}
-use lib.Ieee.{Float, binary32, binary64, of_bits, to_bits}
+use Rattle.std.proofs.Common.{ℕ, zero, suc, ◌+◌, ◌*◌, ◌≤◌, ◌<◌, arith, Bool, true, false, ◌&&◌, true≢false, ◌≡◌, refl, sym, ap, ap₂, subst, ◌∙◌, List, [], ◌∷◌, eqb-true, eq-eqb, ltb-true, lt-ltb, T, eqb, ltb, length, take, drop, get_or-drop, Float, to_bits}
+use Rattle.std.specs.Float.Ieee.{of_bits}
+use Rattle.std.specs.Float.{binary32, binary64}
 use Rattle.bit_matrix.specs.declared.Shape.{Shape}
 use Rattle.bit_matrix.specs.Shape.{shape_of}
 use Rattle.bit_matrix.specs.ShapeClauses.{Image}

@@ -1,12 +1,7 @@
 -- Laws of the steps that read an image: their runs, with the shape that was made of the width and height that are lent, and the result as words.
 -- Assumes nothing.
-use Prim.Native.Nat.{ℕ, ◌≤◌}
-use native.Mathlib.Omega.{arith}
-use mathlib.Core.Bool.{false}
-use mathlib.Core.Path.{◌≡◌, refl}
-use mathlib.Core.List.{List, [], ◌∷◌}
-use lib.Ieee.{binary32, to_bits}
-use lib.ListN.{length}
+use Rattle.std.proofs.Common.{ℕ, ◌≤◌, arith, false, ◌≡◌, refl, List, [], ◌∷◌, to_bits, length}
+use Rattle.std.specs.Float.{binary32}
 use Rattle.reads.specs.Reads.{Reads}
 use Rattle.reads.specs.RunsClauses.{Ran}
 use Rattle.reads.proofs.RunsLaws.{ran_bind, ran_is}

@@ -1,13 +1,6 @@
 -- `bit_matrix_rectangle::column_word` meets its contract.
-use Prim.Native.Nat.{ℕ, ◌+◌, ◌*◌, ◌≤◌, ◌<◌}
-use native.Mathlib.Numerals.{add-one}
-use native.Mathlib.Omega.{arith}
-use mathlib.Core.Bool.{Bool, true, false, cond, ◌||◌}
-use mathlib.Core.List.{List}
-use mathlib.Core.Path.{◌≡◌, refl, sym, ap₂, ◌∙◌}
-use lib.Arith.{digits_lt}
-use lib.Bits.{bit_or}
-use lib.ListN.{length, get_or}
+use Rattle.std.proofs.Common.{ℕ, ◌+◌, ◌*◌, ◌≤◌, ◌<◌, add-one, arith, Bool, true, false, cond, ◌||◌, List, ◌≡◌, refl, sym, ap₂, ◌∙◌, bit_or, length, get_or}
+use Rattle.std.proofs.Math.Arith.{digits_lt}
 use Rattle.reads.specs.Bits.{test_bit}
 use Rattle.reads.proofs.BitsLaws.{test_or, test_zero}
 use Rattle.bit_matrix.specs.declared.Shape.{Shape}

@@ -1,7 +1,5 @@
 -- `bit_matrix_rectangle::column_word` meets its contract. The invariant: a bit tells whether its column has a black pixel in a row so far.
-use Prim.Native.Nat.{ℕ, ◌+◌, ◌*◌, ◌≤◌, ◌<◌}
-use mathlib.Core.List.{List}
-use mathlib.Core.Path.{◌≡◌}
+use Rattle.std.proofs.Common.{ℕ, ◌+◌, ◌*◌, ◌≤◌, ◌<◌, List, ◌≡◌}
 use Rattle.reads.specs.Bits.{test_bit}
 use Rattle.bit_matrix.specs.declared.Shape.{Shape}
 use Rattle.bit_matrix_rectangle.specs.Rectangle.{black_at, black_column}

@@ -1,14 +1,7 @@
 -- `bit_matrix_rectangle::get_enclosing_rectangle` meets its contract: the first and the last word that is not 0 lie in the first and the last row with a
 -- black pixel.
-use Prim.Native.Nat.{ℕ, suc, ◌+◌, ◌*◌, ◌-◌, ◌/◌, ◌%◌, ◌^◌, ◌≤◌, ◌<◌}
-use native.Mathlib.Nat.{mod-lt, div-add-mod', div-mul-le_self, div-lt_iff_lt-mul, mul-le-mul_right}
-use native.Mathlib.Omega.{arith}
-use Rattle.std.proofs.Common.{ne_of_lt}
-use mathlib.Core.Bool.{Bool, true, false, cond}
-use mathlib.Core.List.{List}
-use mathlib.Core.Path.{◌≡◌, refl, sym, ap, ◌∙◌, subst}
-use lib.Arith.{digits_lt}
-use lib.ListN.{length, get_or}
+use Rattle.std.proofs.Common.{ne_of_lt, ℕ, suc, ◌+◌, ◌*◌, ◌-◌, ◌/◌, ◌%◌, ◌^◌, ◌≤◌, ◌<◌, mod-lt, div-add-mod', div-mul-le_self, div-lt_iff_lt-mul, mul-le-mul_right, arith, Bool, true, false, cond, List, ◌≡◌, refl, sym, ap, ◌∙◌, subst, length, get_or}
+use Rattle.std.proofs.Math.Arith.{digits_lt}
 use Rattle.reads.specs.Bits.{test_bit}
 use Rattle.reads.proofs.BitsLaws.{test_zero}
 use Rattle.bit_matrix.specs.declared.Shape.{Shape}

@@ -1,11 +1,8 @@
 -- `bit_matrix_rectangle::left` meets its contract.
-use Prim.Native.Nat.{ℕ, ◌+◌, ◌*◌, ◌-◌, ◌^◌, ◌≤◌, ◌<◌}
-use native.Mathlib.Decide.{dec_lt}
-use native.Mathlib.Omega.{arith}
-use mathlib.Core.Bool.{true, false}
-use mathlib.Core.List.{List}
-use mathlib.Core.Path.{◌≡◌, sym, ap, ◌∙◌}
-use lib.Count.{count_trailing_zeros, trailing_le}
+use Rattle.std.proofs.Common.{ℕ, ◌+◌, ◌*◌, ◌-◌, ◌^◌, ◌≤◌, ◌<◌, arith, true, false, List, ◌≡◌, sym, ap, ◌∙◌}
+use Rattle.std.proofs.lemmas.Nat.{trailing_le}
+use Rattle.std.proofs.Math.Decide.{dec_lt}
+use lib.Count.{count_trailing_zeros}
 use Rattle.reads.specs.Bits.{test_bit}
 use Rattle.bit_matrix.specs.declared.Shape.{Shape}
 use Rattle.bit_matrix_rectangle.specs.Rectangle.{black_at, least_below, black_column}

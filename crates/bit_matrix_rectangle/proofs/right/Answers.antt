@@ -1,11 +1,6 @@
 -- `bit_matrix_rectangle::right` meets its contract.
-use Prim.Native.Nat.{ℕ, suc, ◌+◌, ◌*◌, ◌-◌, ◌^◌, ◌≤◌, ◌<◌}
-use native.Mathlib.Decide.{dec_lt}
-use native.Mathlib.Omega.{arith}
-use mathlib.Core.Bool.{true, false}
-use mathlib.Core.List.{List}
-use mathlib.Core.Path.{◌≡◌, sym, ap, ◌∙◌}
-use borrow.Author.Rules.{rules}
+use Rattle.std.proofs.Common.{ℕ, suc, ◌+◌, ◌*◌, ◌-◌, ◌^◌, ◌≤◌, ◌<◌, arith, true, false, List, ◌≡◌, sym, ap, ◌∙◌, rules}
+use Rattle.std.proofs.Math.Decide.{dec_lt}
 use lib.Count.{count_leading_zeros}
 use Rattle.reads.specs.Bits.{test_bit}
 use Rattle.bit_matrix.specs.declared.Shape.{Shape}

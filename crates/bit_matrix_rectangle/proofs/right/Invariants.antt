@@ -1,8 +1,5 @@
 -- `bit_matrix_rectangle::right` meets its contract. The invariant: each column from the present word on is white.
-use Prim.Native.Nat.{ℕ, ◌*◌, ◌≤◌, ◌<◌}
-use mathlib.Core.Bool.{false}
-use mathlib.Core.List.{List}
-use mathlib.Core.Path.{◌≡◌}
+use Rattle.std.proofs.Common.{ℕ, ◌*◌, ◌≤◌, ◌<◌, false, List, ◌≡◌}
 use Rattle.bit_matrix.specs.declared.Shape.{Shape}
 use Rattle.bit_matrix_rectangle.specs.Rectangle.{black_at, black_column}
 use Rattle.bit_matrix_rectangle.proofs.right.Given as goal

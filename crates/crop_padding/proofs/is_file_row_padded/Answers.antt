@@ -1,9 +1,7 @@
 -- `crop_padding::is_file_row_padded` meets its contract.
 use Rattle.std.specs.Prelude.{ℕ, ◌*◌, ◌-◌, ◌%◌, ◌^◌, ◌≤◌, ◌<◌, Bool, true, false, not, List, ◌≡◌, eqb, refl, get_or}
-use Rattle.std.proofs.Common.{arith, sym, ap, ◌∙◌, lit<, eqb-true}
+use Rattle.std.proofs.Common.{arith, sym, ap, ◌∙◌, lit<, eqb-true, one-mul, shl_exact}
 use Rattle.std.proofs.lemmas.Bool.{eqb-false}
-use native.Mathlib.Nat.{one-mul}
-use lib.Pow.{shl_exact}
 use Rattle.crop_sizes.specs.Sizes.{row_bytes}
 use Rattle.crop_padding.specs.Padding.{file_row}
 use Rattle.crop_padding.proofs.Padding.{last_byte, file_row_clean, file_row_set}

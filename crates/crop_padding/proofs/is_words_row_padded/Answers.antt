@@ -1,8 +1,7 @@
 -- `crop_padding::is_words_row_padded` meets its contract.
 use Rattle.std.specs.Prelude.{ℕ, ◌+◌, ◌*◌, ◌-◌, ◌/◌, ◌^◌, ◌≤◌, ◌<◌, Bool, true, false, not, List, ◌≡◌, eqb, refl, get_or}
-use Rattle.std.proofs.Common.{arith, sym, ap, subst, ◌∙◌, eqb-true}
+use Rattle.std.proofs.Common.{arith, sym, ap, subst, ◌∙◌, eqb-true, shr-shr}
 use Rattle.std.proofs.lemmas.Bool.{eqb-false}
-use lib.Pow.{shr-shr}
 use Rattle.bit_matrix.specs.Shape.{row_words}
 use Rattle.crop_padding.specs.Padding.{words_row}
 use Rattle.crop_padding.proofs.Padding.{last_word, words_row_clean, words_row_set}

@@ -1,12 +1,7 @@
 -- `crop_rows::reverse` meets its contract: each bit is followed through the three swaps, and antt computes the 64 places.
-use Prim.Native.Nat.{ℕ, ◌*◌, ◌/◌, ◌^◌, ◌<◌}
-use native.Mathlib.Nat.{mod-lt, lt_of_le_of_lt}
-use mathlib.Core.Bool.{false, not}
-use mathlib.Core.Path.{◌≡◌, refl, sym, ap, ◌∙◌}
-use borrow.Author.Tests.{ltb-true, eqb-true, not-false}
-use lib.Bits.{bit_and, and_le_r, or_lt}
-use lib.Dec.{eqb, ltb, lit<}
-use lib.Pow.{pow_pos}
+use Rattle.std.proofs.Common.{ℕ, ◌*◌, ◌/◌, ◌^◌, ◌<◌, mod-lt, lt_of_le_of_lt, false, not, ◌≡◌, refl, sym, ap, ◌∙◌, ltb-true, eqb-true, bit_and, eqb, ltb, lit<, pow_pos}
+use Rattle.std.proofs.lemmas.Nat.{and_le_r, or_lt}
+use Rattle.std.proofs.lemmas.Bool.{not-false}
 use Rattle.reads.specs.Bits.{test_bit}
 use Rattle.crop_padding.specs.Below.{any_below, number}
 use Rattle.crop_padding.specs.AnyLaws.{none_holds}

@@ -2,7 +2,7 @@
 use Rattle.std.specs.Prelude.{ℕ, suc, ◌+◌, ◌*◌, ◌-◌, ◌/◌, ◌%◌, ◌≤◌, ◌<◌, false, cond, List, ◌++◌, ◌≡◌, refl, min, ltb, length, get_or, set, drop}
 use Rattle.std.proofs.Common.{arith, sym, ap, ap₂, ◌∙◌, mul-le-mul_right, lt-ltb, le-ltb, length-set, mul_comm}
 use Rattle.std.proofs.Math.Arith.{digits_lt}
-use native.Mathlib.Decide.{dec_lt}
+use Rattle.std.proofs.Math.Decide.{dec_lt}
 use Rattle.reads.specs.Bits.{test_bit}
 use Rattle.crop_padding.specs.Below.{firsts, number}
 use Rattle.crop_padding.specs.AnyLaws.{none_holds}

@@ -1,7 +1,5 @@
 -- `crop_sizes::file_length` meets its contract: the sum fits, whatever the dimensions.
-use Prim.Native.Nat.{ℕ, ◌*◌, ◌^◌, ◌≤◌, ◌<◌}
-use native.Mathlib.Nat.{mul-le-mul}
-use native.Mathlib.Omega.{arith}
+use Rattle.std.proofs.Common.{ℕ, ◌*◌, ◌^◌, ◌≤◌, ◌<◌, mul-le-mul, arith}
 use Rattle.crop_sizes.specs.Sizes.{row_bytes}
 use Rattle.crop_sizes.proofs.file_length.Goals as goal
 

@@ -1,8 +1,5 @@
 -- `crop_sizes::image_words` meets its contract: the product fits, whatever the dimensions.
-use Prim.Native.Nat.{ℕ, ◌*◌, ◌^◌, ◌≤◌, ◌<◌}
-use native.Mathlib.Nat.{mul-le-mul}
-use native.Mathlib.Omega.{arith}
-use mathlib.Core.Path.{◌≡◌}
+use Rattle.std.proofs.Common.{ℕ, ◌*◌, ◌^◌, ◌≤◌, ◌<◌, mul-le-mul, arith, ◌≡◌}
 use Rattle.bit_matrix.specs.Shape.{row_words}
 use Rattle.crop_sizes.proofs.image_words.Goals as goal
 

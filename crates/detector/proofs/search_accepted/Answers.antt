@@ -1,10 +1,5 @@
 -- `detector::search_accepted` meets its contract: the marks cleared, the search run from there, and the marks counted.
-use Prim.Native.Nat.{ℕ}
-use native.Mathlib.Omega.{arith}
-use mathlib.Core.Bool.{Bool}
-use mathlib.Core.List.{List}
-use mathlib.Core.Path.{◌≡◌, ap, ap₂, ◌∙◌}
-use lib.ListN.{length}
+use Rattle.std.proofs.Common.{ℕ, arith, Bool, List, ◌≡◌, ap, ap₂, ◌∙◌, length}
 use Rattle.reads.specs.Bits.{zeros}
 use Rattle.reads.specs.Runs.{value_of, marks_of}
 use Rattle.bit_matrix.specs.declared.Shape.{Shape}

@@ -1,12 +1,6 @@
 -- `detector_cells::get` meets its contract: the shift and mask read the pixel's bit.
-use Prim.Native.Nat.{ℕ, ◌+◌, ◌*◌, ◌/◌, ◌%◌, ◌^◌, ◌<◌}
-use native.Mathlib.Omega.{arith}
-use mathlib.Core.Bool.{not}
-use mathlib.Core.List.{List}
-use mathlib.Core.Path.{◌≡◌, refl}
-use lib.Bits.{bit_and, and_mask}
-use lib.Dec.{eqb}
-use lib.ListN.{length, get_or}
+use Rattle.std.proofs.Common.{ℕ, ◌+◌, ◌*◌, ◌/◌, ◌%◌, ◌^◌, ◌<◌, arith, not, List, ◌≡◌, refl, bit_and, eqb, length, get_or}
+use Rattle.std.proofs.lemmas.Nat.{and_mask}
 use Rattle.reads.specs.Bits.{test_bit, bit_at}
 use Rattle.bit_matrix.specs.declared.Shape.{Shape}
 use Rattle.bit_matrix.specs.Shape.{size}

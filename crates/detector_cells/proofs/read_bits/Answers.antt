@@ -1,7 +1,6 @@
 -- `detector_cells::read_bits` meets its contract: by cases on the enclosing rectangle.
 use Rattle.std.specs.Prelude.{ℕ, Option, Some, None}
-use mathlib.Core.List.{List}
-use mathlib.Core.Path.{◌≡◌, sym, ap, ◌∙◌}
+use Rattle.std.proofs.Common.{List, ◌≡◌, sym, ap, ◌∙◌}
 use Rattle.bit_matrix.specs.declared.Shape.{Shape}
 use Rattle.bit_matrix_rectangle.specs.declared.Rectangle.{Rectangle}
 use Rattle.bit_matrix_rectangle.specs.Rectangle.{black_at, if_black, enclosing_rectangle}

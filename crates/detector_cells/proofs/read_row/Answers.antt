@@ -1,13 +1,6 @@
 -- `detector_cells::read_row` meets its contract.
-use Prim.Native.Nat.{ℕ, ◌+◌, ◌*◌, ◌-◌, ◌/◌, ◌%◌, ◌^◌, ◌≤◌, ◌<◌, min}
-use native.Mathlib.Nat.{mul-le-mul}
-use native.Mathlib.Numerals.{add-one}
-use native.Mathlib.Omega.{arith}
-use mathlib.Core.Bool.{Bool}
-use mathlib.Core.List.{List}
-use mathlib.Core.Path.{◌≡◌, refl, ap, ap₂, ◌∙◌}
-use lib.Bits.{bit_or, or_shifted_r}
-use lib.Pow.{shl_exact}
+use Rattle.std.proofs.Common.{ℕ, ◌+◌, ◌*◌, ◌-◌, ◌/◌, ◌%◌, ◌^◌, ◌≤◌, ◌<◌, min, mul-le-mul, add-one, arith, Bool, List, ◌≡◌, refl, ap, ap₂, ◌∙◌, bit_or, shl_exact}
+use lib.Bits.{or_shifted_r}
 use Rattle.reads.specs.Bits.{digit}
 use Rattle.reads.proofs.BitsLaws.{digit_low}
 use Rattle.bit_matrix.specs.declared.Shape.{Shape}

@@ -1,5 +1,5 @@
 -- `detector_cells::read_row` meets its contract. The invariant: the cells before x are read.
-use mathlib.Core.Path.{◌≡◌}
+use Rattle.std.proofs.Common.{◌≡◌}
 use Rattle.crop_padding.specs.Below.{number}
 use Rattle.bit_matrix_rectangle.specs.Rectangle.{black_at}
 use Rattle.detector_cells.specs.Cells.{cell}

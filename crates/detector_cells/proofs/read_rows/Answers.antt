@@ -1,9 +1,5 @@
 -- `detector_cells::read_rows` meets its contract.
-use Prim.Native.Nat.{ℕ, ◌+◌, ◌<◌}
-use native.Mathlib.Omega.{arith}
-use mathlib.Core.List.{List}
-use mathlib.Core.Path.{◌≡◌, refl, ap, ◌∙◌}
-use lib.ListN.{length, set, length-set}
+use Rattle.std.proofs.Common.{ℕ, ◌+◌, ◌<◌, arith, List, ◌≡◌, refl, ap, ◌∙◌, length, set, length-set}
 use Rattle.crop_padding.specs.Below.{firsts}
 use Rattle.crop_rows.specs.FirstsLaws.{firsts_none, firsts_more, firsts_all}
 use Rattle.detector_cells.proofs.read_rows.Invariants.{Storing}

@@ -1,8 +1,5 @@
 -- `detector_cells::read_rows` meets its contract. The invariant: the words before y are stored, and the rest is as it was.
-use Prim.Native.Nat.{ℕ}
-use mathlib.Core.List.{List, ◌++◌}
-use mathlib.Core.Path.{◌≡◌}
-use lib.ListN.{length, drop}
+use Rattle.std.proofs.Common.{ℕ, List, ◌++◌, ◌≡◌, length, drop}
 use Rattle.crop_padding.specs.Below.{firsts}
 use Rattle.bit_matrix_rectangle.specs.Rectangle.{black_at}
 use Rattle.detector_cells.specs.Cells.{cell_word}

@@ -1,5 +1,5 @@
 -- `detector_search::search` meets its contract: its parts' contracts, put together.
-use borrow.Author.Rules.{rules}
+use Rattle.std.proofs.Common.{rules}
 use Rattle.bit_matrix.specs.ShapeLaws.{image_kept}
 use Rattle.detector_search.proofs.Searching.{judgeable, none_kept, boxable, some_kept}
 use Rattle.detector_search.proofs.search.Goals as goal

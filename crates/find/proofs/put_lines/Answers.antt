@@ -1,12 +1,6 @@
 -- `find::put_lines` meets its contract: the parts that are lent for the words and the marks have the image's length, and no more records are
 -- kept than 400.
-use Prim.Native.Nat.{ℕ, zero, suc, ◌≤◌}
-use native.Mathlib.Omega.{arith}
-use mathlib.Core.Bool.{Bool, false}
-use mathlib.Core.List.{List, ◌∷◌}
-use mathlib.Core.Path.{◌≡◌, refl, ap, ◌∙◌}
-use lib.ListN.{length, take, replicate}
-use borrow.Author.Rules.{rules}
+use Rattle.std.proofs.Common.{ℕ, zero, suc, ◌≤◌, arith, Bool, false, List, ◌∷◌, ◌≡◌, refl, ap, ◌∙◌, length, take, replicate, rules}
 use Rattle.crop.specs.CropLaws.{checked_rows}
 use Rattle.detector.specs.Detector.{run, FileRun, filed, file_run}
 use Rattle.detector.specs.DetectorLaws.{file_few, zeros_lent}

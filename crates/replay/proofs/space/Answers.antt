@@ -1,6 +1,6 @@
 -- `replay::space` meets its contract.
 use Rattle.std.proofs.Common.{ℕ, sym}
-use lib.ListN.{length-replicate}
+use Rattle.std.proofs.lemmas.List.{length-replicate}
 use Rattle.replay.proofs.space.Goals as goal
 
 pub returns : goal.returns

@@ -1,6 +1,6 @@
 -- `step_exports::boxes::boxed` meets its contract.
-use mathlib.Core.Bool.{false≢true}
-use borrow.Author.Rules.{rules}
+use Rattle.std.proofs.lemmas.Bool.{false≢true}
+use Rattle.std.proofs.Common.{rules}
 use Rattle.step_exports.proofs.Running.{ran_through}
 use Rattle.step_exports.proofs.boxes.boxed.Goals as goal
 

@@ -1,5 +1,5 @@
 -- `step_exports::boxes::sample_number` meets its contract.
-use borrow.Author.Rules.{rules}
+use Rattle.std.proofs.Common.{rules}
 use Rattle.step_exports.specs.Steps.{sample_number}
 use Rattle.step_exports.proofs.boxes.sample_number.Goals as goal
 

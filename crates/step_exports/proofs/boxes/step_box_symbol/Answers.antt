@@ -1,6 +1,5 @@
 -- `step_exports::boxes::step_box_symbol` meets its contract.
-use borrow.Author.Rules.{rules}
-use mathlib.Core.Path.{refl}
+use Rattle.std.proofs.Common.{rules, refl}
 use Rattle.crop_sizes.specs.SizesLaws.{rows_of}
 use Rattle.step_exports.proofs.Guarding.{refuse_test, passed_test, lent_as, lent_passed, lent_passed_as, answer}
 use Rattle.step_exports.proofs.Running.{boxed_ran}

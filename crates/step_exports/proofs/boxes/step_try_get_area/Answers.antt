@@ -1,6 +1,5 @@
 -- `step_exports::boxes::step_try_get_area` meets its contract.
-use borrow.Author.Rules.{rules}
-use mathlib.Core.Path.{refl}
+use Rattle.std.proofs.Common.{rules, refl}
 use Rattle.crop_sizes.specs.SizesLaws.{rows_of}
 use Rattle.step_exports.proofs.Guarding.{refuse_test, passed_test, image_as, image_passed_as, answer}
 use Rattle.step_exports.proofs.Running.{area_ran}

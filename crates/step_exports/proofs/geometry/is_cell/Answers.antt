@@ -1,5 +1,5 @@
 -- `step_exports::geometry::is_cell` meets its contract.
-use borrow.Author.Tests.{lt-ltb, le-ltb}
+use Rattle.std.proofs.Common.{lt-ltb, le-ltb}
 use Rattle.step_exports.proofs.Guarding.{second_decides, first_decides}
 use Rattle.step_exports.proofs.geometry.is_cell.Goals as goal
 

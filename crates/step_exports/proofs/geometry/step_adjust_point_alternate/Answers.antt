@@ -1,6 +1,5 @@
 -- `step_exports::geometry::step_adjust_point_alternate` meets its contract.
-use borrow.Author.Rules.{rules}
-use mathlib.Core.Path.{refl}
+use Rattle.std.proofs.Common.{rules, refl}
 use Rattle.crop_sizes.specs.SizesLaws.{rows_of}
 use Rattle.step_exports.proofs.Guarding.{refuse_test, passed_test, centered_as, centered_passed_as, scale_of, scale_passed_as, cell_passed, answer, adjusted_words, placed_of}
 use Rattle.step_exports.proofs.geometry.step_adjust_point_alternate.Goals as goal

@@ -1,7 +1,5 @@
 -- `step_exports::geometry::step_guess_barcode_size_general` meets its contract.
-use mathlib.Core.Path.{refl}
-use native.Mathlib.Omega.{arith}
-use borrow.Author.Rules.{rules}
+use Rattle.std.proofs.Common.{refl, arith, rules}
 use Rattle.step_exports.proofs.Guarding.{refuse, answer, guessed_words}
 use Rattle.step_exports.proofs.geometry.step_guess_barcode_size_general.Goals as goal
 

@@ -1,7 +1,5 @@
 -- `step_exports::geometry::step_scaled_boundary` meets its contract.
-use borrow.Author.Rules.{rules}
-use mathlib.Core.Path.{refl}
-use native.Mathlib.Omega.{arith}
+use Rattle.std.proofs.Common.{rules, refl, arith}
 use Rattle.crop_sizes.specs.SizesLaws.{rows_of}
 use Rattle.step_exports.proofs.Guarding.{refuse, refuse_test, passed_test, centered_as, centered_passed_as, scale_of, scale_passed_as, answer, scaled_words}
 use Rattle.step_exports.proofs.geometry.step_scaled_boundary.Goals as goal

@@ -1,7 +1,5 @@
 -- `step_exports::ranking::step_calculate_center_point_std_dev` meets its contract.
-use borrow.Author.Rules.{rules}
-use mathlib.Core.Path.{refl}
-use native.Mathlib.Omega.{arith}
+use Rattle.std.proofs.Common.{rules, refl, arith}
 use Rattle.step_exports.proofs.Guarding.{refuse, refuse_test, passed_test, small_passed, answer, candidates, spread_words_lem}
 use Rattle.step_exports.proofs.ranking.step_calculate_center_point_std_dev.Goals as goal
 

@@ -1,7 +1,5 @@
 -- `step_exports::ranking::step_keep_and_rank` meets its contract.
-use borrow.Author.Rules.{rules}
-use mathlib.Core.Path.{refl}
-use native.Mathlib.Omega.{arith}
+use Rattle.std.proofs.Common.{rules, refl, arith}
 use Rattle.step_exports.proofs.Guarding.{refuse, refuse_test, passed_test, small_passed, answer, candidates, kept_as}
 use Rattle.step_exports.proofs.ranking.step_keep_and_rank.Goals as goal
 

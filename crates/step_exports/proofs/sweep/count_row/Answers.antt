@@ -1,12 +1,6 @@
 -- `step_exports::sweep::count_row` meets its contract.
-use Prim.Native.Nat.{ℕ, suc, ◌+◌, ◌-◌, ◌^◌, ◌≤◌, ◌<◌}
-use mathlib.Core.Path.{◌≡◌}
-use mathlib.Core.Bool.{Bool}
-use mathlib.Core.List.{List}
-use native.Mathlib.Nat.{sub-zero}
-use native.Mathlib.Omega.{arith}
-use borrow.Author.Rules.{rules}
-use lib.ListN.{length}
+use Rattle.std.proofs.Common.{ℕ, suc, ◌+◌, ◌-◌, ◌^◌, ◌≤◌, ◌<◌, ◌≡◌, Bool, List, arith, rules, length}
+use Rattle.std.proofs.Math.Nat.{sub-zero}
 use Rattle.reads.specs.Bits.{digit}
 use Rattle.reads.proofs.BitsLaws.{digit_low}
 use Rattle.reads.specs.RunsClauses.{Ran}

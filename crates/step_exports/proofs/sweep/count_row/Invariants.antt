@@ -1,7 +1,6 @@
 -- `step_exports::sweep::count_row` meets its contract. The invariant is `Counting`: from the present column, what is left of the definition ends as the
 -- whole does.
-use Prim.Native.Nat.{ℕ, ◌-◌, ◌≤◌}
-use mathlib.Core.List.{List}
+use Rattle.std.proofs.Common.{ℕ, ◌-◌, ◌≤◌, List}
 use Rattle.reads.specs.RunsClauses.{Resumes}
 use Rattle.bit_matrix.specs.declared.Shape.{Shape}
 use Rattle.bit_matrix.specs.ShapeClauses.{Image}

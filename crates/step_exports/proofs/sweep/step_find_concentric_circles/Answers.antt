@@ -1,7 +1,5 @@
 -- `step_exports::sweep::step_find_concentric_circles` meets its contract.
-use borrow.Author.Rules.{rules}
-use mathlib.Core.Path.{refl}
-use native.Mathlib.Omega.{arith}
+use Rattle.std.proofs.Common.{rules, refl, arith}
 use Rattle.crop_sizes.specs.SizesLaws.{rows_of}
 use Rattle.step_exports.proofs.Guarding.{refuse, refuse_test, passed_test, image_as, image_passed_as, answer}
 use Rattle.step_exports.proofs.Running.{room, listed}
