@@ -48,6 +48,7 @@ pub fn shape_of(width: u32, height: u32) -> Shape
 }
 
 // The words of an image.
+// The fact about its rows is asked here, and is no ghost field of `Shape`: `file_length` takes a shape without it.
 pub fn image_words(shape: Shape) -> usize
     requires { shape.row_words ≡ row_words shape.width }
     ensures { result ≡ size shape }

@@ -14,6 +14,7 @@ use bit_matrix_rectangle::Rectangle;
 use detector_points::{MATRIX_HEIGHT, MATRIX_WIDTH};
 
 // `get` of bit_matrix.rs without a mark: the pixel at column x of row y, which lies inside.
+// Apart from that `get`: it marks what it reads, and the entries of cells are lent no marks.
 fn get(words: &[u64], shape: Shape, x: u32, y: u32) -> bool
     requires { Limits shape × (length words.now ≡ size shape) × Inside shape x y }
     ensures { result ≡ black_at shape words.now x y }

@@ -30,7 +30,7 @@ pub fn u32_at(pack: &[u8], at: usize) -> u32
     u32::from_le_bytes(*pack[at..].first_chunk().unwrap())
 }
 
-// Eight bytes, likewise.
+// Eight bytes, likewise. One function of both would need a trait for `from_le_bytes`.
 pub fn u64_at(pack: &[u8], at: usize) -> u64
     requires { at + 8 ≤ length pack.now }
     ensures { result ≡ le64 pack.now at }
