@@ -1,5 +1,5 @@
 //! Checks on what is compiled, by the calls in the proved MIR of the libraries under `tunnel`, that a scale makes its boundary once, before the loop over the
-//! degrees, and that a degree looks up its sine and cosine once, before the loop over the points. A look-up is a call of `sines::sine`, which alone indexes the
+//! degrees, and that a degree looks up its sine and cosine once, before the loop over the points. A look-up is a call of `Sines::sine`, which alone indexes the
 //! table (source.rs). A library's MIR is what `rt lib` links the archive from.
 use std::{
     collections::{BTreeMap, BTreeSet},
@@ -15,7 +15,7 @@ const TRY_OFFSETS: &str = "detector_degrees::try_offsets";
 const TEST_DEGREE: &str = "detector_colours::test_degree";
 const PLAIN_BOUNDARY: &str = "detector_boundary::plain_boundary";
 const SCALED_BOUNDARY: &str = "detector_boundary::scaled_boundary";
-const ANGLE_OF: &str = "sines::angle_of";
+const ANGLE: &str = "sines::Sines::angle";
 
 /// One call, by the functions' names, and how many loops of the caller it stands in.
 #[derive(Debug, PartialEq)]
@@ -248,15 +248,15 @@ fn a_scale_makes_its_boundary_once_before_its_degrees() {
 #[test]
 fn a_degree_looks_up_its_sine_and_cosine_once_before_its_points() {
     let calls = &compiled();
-    let of_degrees: Vec<_> = (callers(calls, ANGLE_OF).into_iter())
+    let of_degrees: Vec<_> = (callers(calls, ANGLE).into_iter())
         .filter(|(from, _)| reached(calls, TRY_DEGREES).contains(from))
         .collect();
     assert_eq!(of_degrees, [(TRY_OFFSETS, 1)]);
-    assert_eq!(called(calls, TRY_OFFSETS), [ANGLE_OF, TEST_DEGREE]);
-    assert_eq!(callers(calls, "sines::cosine"), [(ANGLE_OF, 0)]);
-    let mut sines = callers(calls, "sines::sine");
+    assert_eq!(called(calls, TRY_OFFSETS), [ANGLE, TEST_DEGREE]);
+    assert_eq!(callers(calls, "sines::Sines::cosine"), [(ANGLE, 0)]);
+    let mut sines = callers(calls, "sines::Sines::sine");
     sines.sort_unstable();
-    assert_eq!(sines, [(ANGLE_OF, 0), ("sines::cosine", 0)]);
+    assert_eq!(sines, [(ANGLE, 0), ("sines::Sines::cosine", 0)]);
     // the points' loop, and that nothing in it looks up a sine
     assert_eq!(callers(calls, "detector_colours::look"), [(TEST_DEGREE, 1)]);
     for name in reached(calls, TEST_DEGREE) {

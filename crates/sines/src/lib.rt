@@ -379,22 +379,22 @@ const SINES: [f32; 360] = [
 // The table of sines, to be made once and lent.
 #[derive(Drop)]
 pub struct Sines {
-    values: [f32; 360],
-    pub ghost are_sines: { values ≡ sines },
+    table: [f32; 360],
+    pub ghost are_sines: { table ≡ sines },
 }
 
 impl Sines {
     pub fn new() -> Self
-        ensures { result.values ≡ sines }
+        ensures { result.table ≡ sines }
     {
-        Sines { values: SINES }
+        Sines { table: SINES }
     }
 
     // The sine of a degree, which counts modulo 360.
     pub fn sine(&self, degree: u32) -> f32
         ensures { result ≡ sine_of degree }
     {
-        self.values[(degree % 360) as usize]
+        self.table[(degree % 360) as usize]
     }
 
     // The cosine: the sine 90 degrees on.
