@@ -28,7 +28,8 @@ pub fn file_padded(file: &[u8], shape: Shape) -> bool
     (0..shape.height as usize).any(|y| is_file_row_padded(file, shape, y))
 }
 
-// Whether a padding bit of row y of an image is 1: those are the highest of the row's last word.
+// Whether a padding bit of row y of an image is 1: those are the highest of the row's last word. Apart from a file's: a shift of a word, and there the
+// remainder of a byte.
 fn is_words_row_padded(words: &[u64], shape: Shape, y: usize) -> bool
     requires { Limits shape × (length words.now ≡ size shape) × (y < shape.height) }
     ensures { result ≡ words_row words.now shape.width y }

@@ -53,7 +53,7 @@ fn calculate_simple_boundary(shape: Shape, center: PointU, size: Size) -> Bounda
     }
 }
 
-// The plain box's boundaries.
+// The plain box's boundaries. Shape and centre go side by side: a type that says that one lies in the other would be taken apart by each callee.
 pub fn plain_boundary(shape: Shape, center: PointU, radius: u32) -> Boundary
     requires { Centered shape center × (radius < 2048) }
     ensures { result ≡ plain_boundary shape center radius }

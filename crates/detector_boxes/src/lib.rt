@@ -33,7 +33,8 @@ fn box_record(
     detector_symbol::symbol_fields(fields, symbol);
 }
 
-// The kept records, each with the words of its symbol, one after another.
+// The kept records, each with the words of its symbol, one after another. Loaded and stored: no contract says what a buffer is after its records were
+// lent from it one by one (`as_chunks_mut`).
 fn box_records(
     words: &[u64],
     marks: &mut [u64],

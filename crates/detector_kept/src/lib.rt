@@ -108,7 +108,8 @@ fn retain_near(records: &mut [u32], found: usize, spread: Spread) -> usize
 }
 
 // What `detect` of detector.rs does with the sweep's candidates: those within the deviation are kept, with their
-// variance, and ranked by it. The other records become zeros, up to the capacity. The number kept is returned.
+// variance, and ranked by it. The other records become zeros, up to the capacity. The number kept is returned. C hosts
+// lend one buffer of words, with room for more: so the number of records goes beside it.
 pub fn keep_and_rank(records: &mut [u32], found: usize, capacity: usize) -> usize
     requires { Candidates found records.old × (found ≤ capacity) × (40 * capacity ≤ length records.old) }
     ensures { KeptAndRanked found capacity records.old result records.new }

@@ -80,7 +80,7 @@ const BOTTOM_RIGHT_ORIENTATION_POS: [PointU; 3] = [
     PointU { x: 17, y: 23 },
 ];
 
-// The six groups of three points, in the order in which they are tested.
+// The six groups of three points, in the order in which they are tested. A line for each, since each has a name.
 pub fn adjusted_orientation_points(boundary: Boundary) -> [[PointU; 3]; 6]
     requires { Placed boundary }
     ensures { result ≡ orientation_points boundary }

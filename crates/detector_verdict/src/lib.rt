@@ -49,6 +49,7 @@ fn counted(answer: Answer, found: usize, kept: usize) -> Counts
 }
 
 // The verdict on the sweep's candidates, of which the buffer holds those up to the capacity. Records from the kept ones to the capacity become zeros.
+// C hosts lend one buffer of words: so the numbers go beside it.
 pub fn verdict(records: &mut [u32], found: usize, capacity: usize) -> Counts
     requires { Judgeable capacity found records.old }
     ensures { (candidates : List Record) → Holds capacity found records.old candidates

@@ -182,7 +182,8 @@ fn strides_back(
     back(words, marks, shape, center, angle, x)
 }
 
-// The column where the walk to the left ends: a few steps one by one, then strides; left of column 16 one by one alone.
+// The column where the walk to the left ends: a few steps one by one, then strides; left of column 16 one by one alone. Beside `walk_right`, not one
+// function with it, since the right side always has room.
 fn walk_left(words: &[u64], marks: &mut [u64], shape: Shape, center: PointU, angle: Angle) -> u32
     requires { Image shape words.now marks.old × Inside shape center.x center.y × OfDegree angle }
     ensures { Ran (walk shape center angle true) words.now marks.old result marks.new }
