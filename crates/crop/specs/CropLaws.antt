@@ -153,7 +153,7 @@ checked_rows (Ok shape) checks = rows_of checks.shape
 checked_rows (Err refusal) checks = tt
 
 -- its number, or 6 for buffers by the words of its image
-by_words : {file : List ℕ} (c : Result Shape Refusal) → Checks file c → (unfit : ℕ → Bool)
+pub by_words : {file : List ℕ} (c : Result Shape Refusal) → Checks file c → (unfit : ℕ → Bool)
     → or_lent c (λ s. unfit (size s)) ≡ refusal_of file_kind least_side file (unfit (file_words file))
 unfolding or_six
 by_words {file} (Ok shape) checks unfit =

@@ -64,7 +64,8 @@ fn try_offsets(
     None
 }
 
-// The first degree at which the points of the six groups, turned about the centre, have their colours.
+// The first degree at which the points of the six groups, turned about the centre, have their colours. The groups come by value: they are made for this
+// call, and a reference to them would be no plainer.
 pub fn try_degrees(
     words: &[u64],
     marks: &mut [u64],

@@ -1,5 +1,5 @@
 -- So many steps of a walk, from a column on: the loop that takes them, and how they are joined to the whole walk. Assumes nothing.
-use Rattle.std.proofs.Common.{ℕ, zero, suc, ◌+◌, ◌-◌, ◌^◌, ◌≤◌, ◌<◌, eq-or-lt_of_le, arith, Bool, true, false, cond, true≢false, List, inl, inr, ◌≡◌, refl, sym, ap, subst, ◌∙◌, length}
+use Rattle.std.proofs.Common.{ℕ, zero, suc, ◌+◌, ◌-◌, ◌^◌, ◌≤◌, ◌<◌, eq-or-lt_of_le, arith, Bool, true, false, cond, true≢false, List, inl, inr, ◌≡◌, refl, sym, ap, subst, ◌∙◌, length, ap₂}
 use Rattle.reads.specs.Reads.{Reads, done, ◌>>=◌, value}
 use Rattle.reads.specs.Runs.{value_of, marks_of}
 use Rattle.reads.specs.RunsClauses.{Ran, Resumes}
@@ -12,6 +12,17 @@ use Rattle.detector_walks.specs.Walks.{walk_point, white_point, left_from, right
 use Rattle.detector_walks.specs.WalksClauses.{OfDegree, steps, white_back, column, Taken, steps_remaining}
 use Rattle.detector_walks.specs.StepsLaws.{steps_right, steps_few}
 use Rattle.detector_walks.specs.WalksLaws.{white_at, next, from_step, walk_stops}
+
+-- ---- tests that are the same of each column take the same steps
+pub same_steps : (test test' : ℕ → Reads Bool) (n x : ℕ) → ((i : ℕ) → i < n → test (x + i) ≡ test' (x + i)) → steps test n x ≡ steps test' n x
+unfolding steps
+same_steps test test' zero x same = refl
+same_steps test test' (suc n) x same =
+    let none : x + 0 ≡ x = omega arith in
+    let here : test x ≡ test' x = rw none at (same 0 (omega arith)) in
+    let later : (i : ℕ) → i < n → test (x + 1 + i) ≡ test' (x + 1 + i) =
+    λ i h. subst (λ (y : ℕ). test y ≡ test' y) (omega arith) (same (i + 1) (omega arith)) in
+    ap₂ (λ (p : Reads Bool) (q : Reads ℕ). p >>= λ (white : Bool). cond white q (done x)) here (same_steps test test' n (x + 1) later)
 
 pub right_steps : (shape : Shape) (center : PointU) (angle : Angle) (n x : ℕ)
     → steps (λ y. white_point shape (walk_point center angle y)) n x ≡ right_from shape center angle n x

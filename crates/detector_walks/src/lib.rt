@@ -158,8 +158,7 @@ fn stride<const LEFT: bool>(
     32
 }
 
-// The column where the walk to the left ends, by strides from a column on, and one by one where there is no room for a stride. Beside `strides`, not one
-// function with it: that would test for room on both sides, and have an end that the right side never reaches.
+// The column where the walk to the left ends, by strides from a column on, and one by one where there is no room for a stride.
 fn strides_back(
     words: &[u64],
     marks: &mut [u64],
@@ -182,8 +181,7 @@ fn strides_back(
     back(words, marks, shape, center, angle, x)
 }
 
-// The column where the walk to the left ends: a few steps one by one, then strides; left of column 16 one by one alone. Beside `walk_right`, not one
-// function with it, since the right side always has room.
+// The column where the walk to the left ends: a few steps one by one, then strides; left of column 16 one by one alone.
 fn walk_left(words: &[u64], marks: &mut [u64], shape: Shape, center: PointU, angle: Angle) -> u32
     requires { Image shape words.now marks.old × Inside shape center.x center.y × OfDegree angle }
     ensures { Ran (walk shape center angle true) words.now marks.old result marks.new }
