@@ -139,7 +139,10 @@ pub extern "C" fn step_get_point(numbers: &[u32; 5], out: &mut [u32; 2])
     };
     let original = PointU { x, y };
     let point = rxing_result_point::get_point(center, original, &Sines::new(), degree);
-    *out = [std::num::f32_to_bits_with_nan(point.x), std::num::f32_to_bits_with_nan(point.y)];
+    *out = [
+        std::num::f32_to_bits_with_nan(point.x),
+        std::num::f32_to_bits_with_nan(point.y),
+    ];
 }
 
 // A point by the bits of its coordinates.
@@ -163,5 +166,8 @@ pub extern "C" fn step_find_center(numbers: &[u32; 6], out: &mut [u32; 2])
     let second = point_of(x2, y2);
     let third = point_of(x3, y3);
     let point = detector_center::find_center(first, second, third);
-    *out = [std::num::f32_to_bits_with_nan(point.x), std::num::f32_to_bits_with_nan(point.y)];
+    *out = [
+        std::num::f32_to_bits_with_nan(point.x),
+        std::num::f32_to_bits_with_nan(point.y),
+    ];
 }
