@@ -4,4 +4,5 @@ pub mod ShapeLaws
 pub mod Pixels
 pub mod FlankedClauses
 pub mod PixelsLaws
+pub mod ImageClauses
 pub mod Examples

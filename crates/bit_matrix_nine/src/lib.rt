@@ -3,11 +3,12 @@
 
 ghost use Rattle.std.specs.Prelude.{true, ◌≡◌, ◌+◌, ◌*◌, ◌%◌, ◌≤◌, ◌<◌, leb, length};
 ghost use Rattle.reads.specs.Bits.{range};
-ghost use Rattle.bit_matrix.specs.ShapeClauses.{Limits, Image};
+ghost use Rattle.bit_matrix.specs.ShapeClauses.{Limits};
+ghost use Rattle.bit_matrix.specs.ImageClauses.{Kept};
 ghost use Rattle.bit_matrix.specs.Pixels.{offset};
 ghost use Rattle.bit_matrix_nine.specs.AreaWords.{ones, TakenBits, HalfBlack, nine_of, InWords};
 
-use bit_matrix::Shape;
+use bit_matrix::{BitMatrix, Shape};
 
 // Whether the nine pixels about (x, y) lie inside, and in each row the three in one stored word.
 pub fn in_words(shape: Shape, x: u32, y: u32) -> bool
@@ -21,12 +22,13 @@ pub fn in_words(shape: Shape, x: u32, y: u32) -> bool
 }
 
 // Three bits of a word from bit `shift` on, as a number. They are marked.
-fn take_three(words: &[u64], marks: &mut [u64], offset: usize, shift: u32) -> u64
-    requires { (length marks.old ≡ length words.now) × («offset» < length words.now) × (3 + shift ≤ 64) }
-    ensures { TakenBits words.now marks.old (range («offset» * 64 + shift) 3) result marks.new }
+fn take_three(image: &mut BitMatrix, offset: usize, shift: u32) -> u64
+    requires { («offset» < length image.old.words.now) × (3 + shift ≤ 64) }
+    ensures kept { Kept image.old image.new }
+    ensures taken { TakenBits image.old.words.now image.old.marks.now (range («offset» * 64 + shift) 3) result image.new.marks.now }
 {
-    marks[offset] |= 7u64 << shift;
-    words[offset] >> shift & 7
+    image.marks[offset] |= 7u64 << shift;
+    image.words[offset] >> shift & 7
 }
 
 // Bit odd + 8 * pairs is set where the digits of `odd` and twice those of `pairs` come to five or more.
@@ -44,14 +46,16 @@ fn five_of_nine(a: u64, b: u64, c: u64) -> bool
 }
 
 // Whether at least half of the pixels of columns x to x + 2 and rows y to y + 2 are black. They are marked.
-pub fn half_of_nine(words: &[u64], marks: &mut [u64], shape: Shape, x: u32, y: u32) -> bool
-    requires { Image shape words.now marks.old × (3 + x % 64 ≤ 64) × (offset shape x (y + 2) < length words.now) }
-    ensures { HalfBlack words.now marks.old (nine_of shape x y) result marks.new }
+pub fn half_of_nine(image: &mut BitMatrix, x: u32, y: u32) -> bool
+    requires { (3 + x % 64 ≤ 64) × (offset image.old.shape x (y + 2) < length image.old.words.now) }
+    ensures kept { Kept image.old image.new }
+    ensures half { HalfBlack image.old.words.now image.old.marks.now (nine_of image.old.shape x y) result image.new.marks.now }
 {
     let shift = x % 64;
-    let offset = bit_matrix::get_offset(shape, y, x);
-    let first = take_three(words, marks, offset, shift);
-    let second = take_three(words, marks, offset + shape.row_words, shift);
-    let third = take_three(words, marks, offset + 2 * shape.row_words, shift);
+    let offset = bit_matrix::get_offset(image.shape, y, x);
+    let row_words = image.shape.row_words;
+    let first = take_three(image, offset, shift);
+    let second = take_three(image, offset + row_words, shift);
+    let third = take_three(image, offset + 2 * row_words, shift);
     five_of_nine(first, second, third)
 }

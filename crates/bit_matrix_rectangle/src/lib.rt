@@ -2,11 +2,11 @@
 // by pixels.
 #![tactic(auto)]
 
-ghost use Rattle.std.specs.Prelude.{MatchOption, ◌≡◌, ◌<◌, length};
+ghost use Rattle.std.specs.Prelude.{ℕ, MatchOption, ◌≡◌, ◌<◌, ◌^◌, length, get_or};
 ghost use Rattle.bit_matrix_rectangle.specs.Rectangle.{black_at, least_below, greatest_below, black_column, enclosing_rectangle};
 ghost use Rattle.bit_matrix_rectangle.specs.RectangleClauses.{ImageAccepted, is_set, Rows, ColumnWord};
 
-use bit_matrix::Shape;
+use bit_matrix::{Shape, Unmarked};
 
 // A rectangle of pixels: its first column and row, and how many of each.
 #[derive(Clone, Copy)]
@@ -17,10 +17,12 @@ pub struct Rectangle {
     pub height: u32,
 }
 
-// The first word that is not 0.
+// The first word that is not 0. Of a slice that is an argument the check knows that each word has 64 bits; of one in a struct it does not, so `fits` tells
+// the caller.
 fn first_set(words: &[u64]) -> Option<usize>
-    ensures { MatchOption result (least_below (is_set words.now) (length words.now) ≡ length words.now)
+    ensures first { MatchOption result (least_below (is_set words.now) (length words.now) ≡ length words.now)
         (λ i. (i ≡ least_below (is_set words.now) (length words.now)) × (i < length words.now)) }
+    ensures fits { (i : ℕ) → get_or words.now i 0 < 2 ^ 64 }
 {
     words.iter().position(|word| *word != 0)
 }
@@ -33,57 +35,75 @@ fn last_set(words: &[u64]) -> Option<usize>
     words.iter().rposition(|word| *word != 0)
 }
 
-// Word x of the rows from `top` to `bottom`, put together: a bit for each of its columns that has a black pixel.
-fn column_word(words: &[u64], shape: Shape, x: usize, top: usize, bottom: usize) -> u64
-    requires { ImageAccepted shape words.now × Rows shape words.now top bottom × (x < shape.row_words) }
-    ensures { ColumnWord shape words.now x result }
-{
-    let mut word = 0;
-    for y in top..bottom + 1 {
-        word |= words[y * shape.row_words + x];
-    }
-    word
+// The rows of an image from the first to the last with a black pixel.
+#[derive(Clone, Copy)]
+struct BlackRows<'a> {
+    words: &'a [u64],
+    shape: Shape,
+    top: usize,
+    bottom: usize,
+    ghost accepted: { ImageAccepted shape words.now },
+    ghost rows: { Rows shape words.now top bottom },
 }
 
-// The first column with a black pixel, or the width.
-// Apart from `right`: one function of both would be told the order of the words, the bit of a word, and what there is without one.
-fn left(words: &[u64], shape: Shape, top: usize, bottom: usize) -> u32
-    requires { ImageAccepted shape words.now × Rows shape words.now top bottom }
-    ensures { result ≡ least_below (black_column (black_at shape words.now) shape.height) shape.width }
-{
-    for x in 0..shape.row_words {
-        let word = column_word(words, shape, x, top, bottom);
-        if word != 0 {
-            return (x * 64) as u32 + word.trailing_zeros();
+impl BlackRows<'_> {
+    // Word x of the rows, put together: a bit for each of its columns that has a black pixel.
+    fn column_word(&self, x: usize) -> u64
+        requires { x < self.now.shape.row_words }
+        ensures { ColumnWord self.now.shape self.now.words.now x result }
+    {
+        let mut word = 0;
+        for y in self.top..self.bottom + 1 {
+            word |= self.words[y * self.shape.row_words + x];
         }
+        word
     }
-    shape.width
-}
 
-// The last column with a black pixel, or 0.
-fn right(words: &[u64], shape: Shape, top: usize, bottom: usize) -> u32
-    requires { ImageAccepted shape words.now × Rows shape words.now top bottom }
-    ensures { result ≡ greatest_below (black_column (black_at shape words.now) shape.height) shape.width }
-{
-    for x in (0..shape.row_words).rev() {
-        let word = column_word(words, shape, x, top, bottom);
-        if word != 0 {
-            return (x * 64 + 63) as u32 - word.leading_zeros();
+    // The first column with a black pixel, or the width.
+    // Apart from `right`: one function of both would be told the order of the words, the bit of a word, and what there is without one.
+    fn left(&self) -> u32
+        ensures { result ≡ least_below (black_column (black_at self.now.shape self.now.words.now) self.now.shape.height) self.now.shape.width }
+    {
+        for x in 0..self.shape.row_words {
+            let word = self.column_word(x);
+            if word != 0 {
+                return (x * 64) as u32 + word.trailing_zeros();
+            }
         }
+        self.shape.width
     }
-    0
+
+    // The last column with a black pixel, or 0.
+    fn right(&self) -> u32
+        ensures { result ≡ greatest_below (black_column (black_at self.now.shape self.now.words.now) self.now.shape.height) self.now.shape.width }
+    {
+        for x in (0..self.shape.row_words).rev() {
+            let word = self.column_word(x);
+            if word != 0 {
+                return (x * 64 + 63) as u32 - word.leading_zeros();
+            }
+        }
+        0
+    }
 }
 
 // The enclosing rectangle of an image's black pixels, or none where all are white. The first and the last word that is not 0 lie in its first and
 // last row.
-pub fn get_enclosing_rectangle(words: &[u64], shape: Shape) -> Option<Rectangle>
-    requires { ImageAccepted shape words.now }
-    ensures { result ≡ enclosing_rectangle (black_at shape words.now) shape.width shape.height }
+pub fn get_enclosing_rectangle(image: &Unmarked) -> Option<Rectangle>
+    requires { ImageAccepted image.now.shape image.now.words.now }
+    ensures { result ≡ enclosing_rectangle (black_at image.now.shape image.now.words.now) image.now.shape.width image.now.shape.height }
 {
+    let Unmarked { words, shape } = *image;
     let top = first_set(words)? / shape.row_words;
     let bottom = last_set(words)? / shape.row_words;
-    let left = left(words, shape, top, bottom);
-    let right = right(words, shape, top, bottom);
+    let rows = BlackRows {
+        words,
+        shape,
+        top,
+        bottom,
+    };
+    let left = rows.left();
+    let right = rows.right();
     Some(Rectangle {
         left,
         top: top as u32,

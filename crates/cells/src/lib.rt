@@ -9,6 +9,7 @@ ghost use Rattle.detector_cells.specs.Cells.{cells_run};
 ghost use Rattle.cells.specs.declared.Unread.TheVariants.{Refused, Blank};
 ghost use Rattle.cells.specs.Entries.{unread_number, cells_answer, words_cells, filed_cells, file_cells};
 
+use bit_matrix::Unmarked;
 use crop_sizes::Refusal;
 use detector_points::MATRIX_HEIGHT;
 
@@ -63,7 +64,7 @@ pub fn cells_words(words: &[u64], width: u32, height: u32, cells: &mut [u32]) ->
 {
     let shape = crop::check_words(words, width, height)?;
     cells_room(cells.len())?;
-    detector_cells::read_bits(words, shape, cells)?;
+    detector_cells::read_bits(&Unmarked { words, shape }, cells)?;
     Ok(())
 }
 
@@ -75,6 +76,6 @@ pub fn cells_file(file: &[u8], words: &mut [u64], cells: &mut [u32]) -> Result<(
     let shape = crop::unpack_refusal(crop::check_file(file), words.len())?;
     cells_room(cells.len())?;
     crop_rows::unpack_rows(file, shape, words);
-    detector_cells::read_bits(words, shape, cells)?;
+    detector_cells::read_bits(&Unmarked { words, shape }, cells)?;
     Ok(())
 }

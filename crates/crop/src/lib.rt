@@ -8,7 +8,8 @@ ghost use Rattle.crop_sizes.specs.Refusals.{answer_of};
 ghost use Rattle.crop.specs.Crop.{header, no_room, refusal, words_refusal_of, words_refusal, Unpacks};
 ghost use Rattle.crop.specs.CropClauses.{HeadedBy, Checks, or_lent};
 
-use bit_matrix::Shape;
+use bit_matrix::{Shape, Unmarked};
+use crop_padding::CropFile;
 use crop_sizes::Refusal;
 
 // The kind of a crop file.
@@ -40,28 +41,22 @@ pub fn check_file(file: &[u8]) -> Result<Shape, Refusal>
     let shape = header_shape(file)?;
     let needed = crop_sizes::file_length(shape);
     crop_sizes::size_refusal(shape, crop_sizes::LEAST, file.len(), needed)?;
-    if crop_padding::file_padded(file, shape) {
+    if crop_padding::file_padded(&CropFile { bytes: file, shape }) {
         return Err(Refusal::Padding);
     }
     Ok(shape)
 }
 
-// The first of the reasons that is wrong with a file by itself.
-pub fn check(file: &[u8]) -> Result<(), Refusal>
-    ensures { answer_of result ≡ refusal file.now }
+// The shape of an image, where marks as long as its words are lent, and a record buffer with room for a record.
+fn search_room(shape: Shape, marks_len: usize, records_len: usize) -> Result<Shape, Refusal>
+    requires { shape.row_words ≡ row_words shape.width }
+    ensures answer { answer_of result ≡ cond (no_room (size shape) marks_len records_len) 6 0 }
+    ensures shape { IfOk result (λ same. same ≡ shape) }
 {
-    check_file(file)?;
-    Ok(())
-}
-
-// Refuses marks that differ in length from an image's words, and a record buffer with no room for a record.
-fn search_room(needed: usize, marks_len: usize, records_len: usize) -> Result<(), Refusal>
-    ensures { answer_of result ≡ cond (no_room needed marks_len records_len) 6 0 }
-{
-    if marks_len != needed || records_len < 40 {
+    if marks_len != crop_sizes::image_words(shape) || records_len < 40 {
         return Err(Refusal::Lent);
     }
-    Ok(())
+    Ok(shape)
 }
 
 // The first of the reasons that is wrong with an image in words, but for the header, or its shape.
@@ -72,7 +67,7 @@ pub fn check_words(words: &[u64], width: u32, height: u32) -> Result<Shape, Refu
     let shape = crop_sizes::shape_of(width, height);
     let needed = crop_sizes::image_words(shape);
     crop_sizes::size_refusal(shape, crop_sizes::LEAST, words.len(), needed)?;
-    if crop_padding::words_padded(words, shape) {
+    if crop_padding::words_padded(&Unmarked { words, shape }) {
         return Err(Refusal::Padding);
     }
     Ok(shape)
@@ -90,8 +85,7 @@ pub fn words_refusal(
     ensures shape { IfOk result (λ shape. shape ≡ shape_of width height) }
 {
     let shape = check_words(words, width, height)?;
-    search_room(crop_sizes::image_words(shape), marks_len, records_len)?;
-    Ok(shape)
+    search_room(shape, marks_len, records_len)
 }
 
 // What is wrong with a file that was checked, with the length of the words to unpack into, or its shape.
@@ -119,8 +113,7 @@ pub fn file_refusal(
     ensures shape { IfOk result (λ shape. checked ≡ Ok shape) }
 {
     let shape = unpack_refusal(checked, words_len)?;
-    search_room(crop_sizes::image_words(shape), marks_len, records_len)?;
-    Ok(shape)
+    search_room(shape, marks_len, records_len)
 }
 
 // The words of a file into a lent buffer, which is written only when nothing refuses.

@@ -1,7 +1,6 @@
 -- Laws of the number with given bits, and of the bits of a number. Assumes nothing.
-use Rattle.std.proofs.Common.{add-suc, add-zero, mod-eq_of_lt, lt_of_lt_of_le, sym, ap₂, ◌∙◌, pow-add, pow_mono, shr-shr}
+use Rattle.std.proofs.Common.{arith, add-suc, add-zero, mod-eq_of_lt, lt_of_lt_of_le, sym, ap₂, ◌∙◌, pow-add, pow_mono, shr-shr}
 use Rattle.std.proofs.Math.Nat.{pow-suc, mod-one, zero-div, div-eq_of_lt}
-use native.Mathlib.Omega.{arith}
 use Rattle.std.specs.Prelude.{Bool, true, false, ◌≡◌, refl, eqb, ℕ, zero, suc, ◌+◌, ◌*◌, ◌-◌, ◌/◌, ◌%◌, ◌^◌, ◌≤◌, ◌<◌}
 use Rattle.std.proofs.Math.Bool.{not}
 use Rattle.std.proofs.Math.Path.{ap}

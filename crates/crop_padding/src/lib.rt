@@ -2,48 +2,54 @@
 #![tactic(auto)]
 
 ghost use Rattle.std.specs.Prelude.{◌≡◌, ◌<◌, length};
-ghost use Rattle.bit_matrix.specs.Shape.{size};
 ghost use Rattle.bit_matrix.specs.ShapeClauses.{Limits};
 ghost use Rattle.crop_sizes.specs.Sizes.{file_length};
 ghost use Rattle.crop_padding.specs.Padding.{file_row, file_padded, words_row, words_padded};
 
-use bit_matrix::Shape;
+use bit_matrix::{Shape, Unmarked};
+
+// A crop file as long as an image of its shape needs.
+#[derive(Clone, Copy)]
+pub struct CropFile<'a> {
+    pub bytes: &'a [u8],
+    pub shape: Shape,
+    pub ghost limits: { Limits shape },
+    pub ghost sized: { length bytes.now ≡ file_length shape.width shape.height },
+}
 
 // Whether a padding bit of row y of a file is 1: those are the lowest of the row's last byte.
-fn is_file_row_padded(file: &[u8], shape: Shape, y: usize) -> bool
-    requires { Limits shape × (length file.now ≡ file_length shape.width shape.height) × (y < shape.height) }
-    ensures { result ≡ file_row file.now shape.width y }
+fn is_file_row_padded(file: &CropFile, y: usize) -> bool
+    requires { y < file.now.shape.height }
+    ensures { result ≡ file_row file.now.bytes.now file.now.shape.width y }
 {
-    let width = shape.width as usize;
+    let width = file.shape.width as usize;
     let row = (width + 7) / 8;
     let unit = 1u8 << (row * 8 - width);
-    file[4 + (y * row + (row - 1))] % unit != 0
+    file.bytes[4 + (y * row + (row - 1))] % unit != 0
 }
 
 // Whether a padding bit of a file's rows is 1.
-pub fn file_padded(file: &[u8], shape: Shape) -> bool
-    requires { Limits shape × (length file.now ≡ file_length shape.width shape.height) }
-    ensures { result ≡ file_padded file.now shape.width shape.height }
+pub fn file_padded(file: &CropFile) -> bool
+    ensures { result ≡ file_padded file.now.bytes.now file.now.shape.width file.now.shape.height }
 {
-    (0..shape.height as usize).any(|y| is_file_row_padded(file, shape, y))
+    (0..file.shape.height as usize).any(|y| is_file_row_padded(file, y))
 }
 
 // Whether a padding bit of row y of an image is 1: those are the highest of the row's last word. Apart from a file's: a shift of a word, and there the
 // remainder of a byte.
-fn is_words_row_padded(words: &[u64], shape: Shape, y: usize) -> bool
-    requires { Limits shape × (length words.now ≡ size shape) × (y < shape.height) }
-    ensures { result ≡ words_row words.now shape.width y }
+fn is_words_row_padded(image: &Unmarked, y: usize) -> bool
+    requires { y < image.now.shape.height }
+    ensures { result ≡ words_row image.now.words.now image.now.shape.width y }
 {
-    let width = shape.width as usize;
-    let row = shape.row_words;
+    let width = image.shape.width as usize;
+    let row = image.shape.row_words;
     let used = width - (row - 1) * 64;
-    words[y * row + (row - 1)] >> (used - 1) >> 1 != 0
+    image.words[y * row + (row - 1)] >> (used - 1) >> 1 != 0
 }
 
 // Whether a padding bit of an image's rows is 1.
-pub fn words_padded(words: &[u64], shape: Shape) -> bool
-    requires { Limits shape × (length words.now ≡ size shape) }
-    ensures { result ≡ words_padded words.now shape.width shape.height }
+pub fn words_padded(image: &Unmarked) -> bool
+    ensures { result ≡ words_padded image.now.words.now image.now.shape.width image.now.shape.height }
 {
-    (0..shape.height as usize).any(|y| is_words_row_padded(words, shape, y))
+    (0..image.shape.height as usize).any(|y| is_words_row_padded(image, y))
 }

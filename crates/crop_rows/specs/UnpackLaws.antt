@@ -1,9 +1,8 @@
 -- What the unpacked words are: each stored bit is the file's pixel, or white past the width. Assumes nothing.
 use Rattle.std.specs.Prelude.{ℕ, ◌+◌, ◌*◌, ◌-◌, ◌/◌, ◌%◌, ◌<◌, Bool, false, List, ◌≡◌, length, get_or}
-use native.Mathlib.Omega.{arith}
 use Rattle.std.proofs.Math.Bool.{cond}
 use Rattle.std.proofs.Math.Path.{ap, ap₂}
-use Rattle.std.proofs.Common.{◌∙◌, le-ltb}
+use Rattle.std.proofs.Common.{arith, ◌∙◌, le-ltb}
 use Rattle.std.proofs.Math.Arith.{digits_div, digits_mod, digits_lt}
 use Rattle.reads.specs.Bits.{test_bit, bit_at}
 use Rattle.crop_padding.specs.Below.{number}

@@ -24,6 +24,7 @@ fn load_few(bytes: &[u8]) -> u64
 }
 
 // Word x of the row that starts at byte `start` of a file and has `bytes` bytes. The last word may have fewer than eight of them.
+// A slice of the row's bytes in place of three numbers is proved too, but its speed is not measured, and unpacking is timed.
 fn load(file: &[u8], start: usize, bytes: usize, x: usize) -> u64
     requires { (start + bytes ≤ length file.now) × (8 * x < bytes) }
     ensures { result ≡ number (byte_bit file.now (start + 8 * x)) (8 * min 8 (bytes - 8 * x)) }
@@ -54,6 +55,7 @@ fn reverse(word: u64) -> u64
 }
 
 // All words of an accepted file.
+// No plainer by a `CropFile`: each caller has one fact of the file and its shape, and would make a struct of it that still leaves the padding to ask.
 pub fn unpack_rows(file: &[u8], shape: Shape, words: &mut [u64])
     requires { FileAccepted shape file.now × (length words.old ≡ size shape) }
     ensures { words.new ≡ unpacked file.now shape }

@@ -2,12 +2,11 @@
 #![tactic(auto)]
 
 ghost use Rattle.std.specs.Prelude.{◌≡◌, ◌+◌, ◌^◌, ◌≤◌, ◌<◌};
-ghost use Rattle.reads.specs.RunsClauses.{Ran};
-ghost use Rattle.bit_matrix.specs.ShapeClauses.{Image};
 ghost use Rattle.detector_candidate.specs.Candidate.{candidate_of, passed, failed};
 ghost use Rattle.detector_candidate.specs.CandidateClauses.{Searchable, search_from};
+ghost use Rattle.bit_matrix.specs.ImageClauses.{RanOn};
 
-use bit_matrix::Shape;
+use bit_matrix::BitMatrix;
 use detector_window::Bullseye;
 
 // What one search of a row gives: the record of a bull's-eye that passed, and where the next search of the row starts, unless the row ends.
@@ -54,24 +53,18 @@ fn bullseye_failed(column: u32, eye: Bullseye) -> Searched
 }
 
 // One search of a row, from a column on: a window, and whether its column passes too. With no window the row ends.
-pub fn search_from(
-    words: &[u64],
-    marks: &mut [u64],
-    shape: Shape,
-    row: u32,
-    column: u32,
-) -> Searched
-    requires { Image shape words.now marks.old × Searchable shape row column }
-    ensures { Ran (search_from shape row column) words.now marks.old result marks.new }
+pub fn search_from(image: &mut BitMatrix, row: u32, column: u32) -> Searched
+    requires { Searchable image.old.shape row column }
+    ensures { RanOn (search_from image.old.shape row column) image.old result image.new }
 {
-    let found = detector_rows::find_next_bullseye_horizontal(words, marks, shape, row, column);
+    let found = detector_rows::find_next_bullseye_horizontal(image, row, column);
     let Some(eye) = found else {
         return Searched {
             candidate: None,
             next: None,
         };
     };
-    match detector_columns::verify_bullseye_vertical(words, marks, shape, row, eye.center) {
+    match detector_columns::verify_bullseye_vertical(image, row, eye.center) {
         Some(vertical) => bullseye_passed(row, eye, vertical),
         None => bullseye_failed(column, eye),
     }

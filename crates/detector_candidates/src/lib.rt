@@ -2,14 +2,15 @@
 #![tactic(auto)]
 
 ghost use Rattle.std.specs.Prelude.{◌<◌};
-ghost use Rattle.bit_matrix.specs.ShapeClauses.{Image};
 ghost use Rattle.records.specs.Records.{rows};
 ghost use Rattle.detector_candidates.specs.Candidates.{after, concentric_circles};
 ghost use Rattle.detector_candidates.specs.CandidatesClauses.{row_from, Room, Stored, Listed};
+ghost use Rattle.bit_matrix.specs.ImageClauses.{Kept};
 
-use bit_matrix::Shape;
+use bit_matrix::BitMatrix;
 
-// A candidate goes behind the others. One more than the capacity is counted and not stored.
+// A candidate goes behind the others. One more than the capacity is counted and not stored. A struct of records, capacity and count is no plainer: what
+// it leaves in the lent buffer is not known after a loop, so the sweep would need a method with the clauses of `find_concentric_circles` again.
 fn append(records: &mut [u32], capacity: usize, count: usize, candidate: Option<[u32; 40]>) -> usize
     requires { Room capacity records.old count }
     ensures { Stored capacity records.old (after (rows count records.old) candidate) result records.new }
@@ -25,22 +26,21 @@ fn append(records: &mut [u32], capacity: usize, count: usize, candidate: Option<
 
 // The candidates of a row, behind the `found` ones that the buffer has. One more than the capacity ends it.
 fn sweep_row(
-    words: &[u64],
-    marks: &mut [u64],
+    image: &mut BitMatrix,
     records: &mut [u32],
-    shape: Shape,
     capacity: usize,
     row: u32,
     found: usize,
 ) -> usize
-    requires { Image shape words.now marks.old × (row < shape.height) × Room capacity records.old found }
-    ensures { Listed (row_from shape capacity shape.width row 6 (rows found records.old)) capacity
-        words.now marks.old records.old result marks.new records.new }
+    requires { (row < image.old.shape.height) × Room capacity records.old found }
+    ensures kept { Kept image.old image.new }
+    ensures listed { Listed (row_from image.old.shape capacity image.old.shape.width row 6 (rows found records.old)) capacity
+        image.old.words.now image.old.marks.now records.old result image.new.marks.now records.new }
 {
     let mut count = found;
     let mut next = Some(6);
     while let Some(column) = next {
-        let s = detector_candidate::search_from(words, marks, shape, row, column);
+        let s = detector_candidate::search_from(image, row, column);
         count = append(records, capacity, count, s.candidate);
         if count > capacity {
             return count;
@@ -51,20 +51,15 @@ fn sweep_row(
 }
 
 // The candidates of an image, of rows 6, 8 and so on. One more than the capacity ends the sweep.
-pub fn find_concentric_circles(
-    words: &[u64],
-    marks: &mut [u64],
-    records: &mut [u32],
-    shape: Shape,
-    capacity: usize,
-) -> usize
-    requires { Image shape words.now marks.old × Room capacity records.old 0 }
-    ensures { Listed (concentric_circles shape capacity) capacity
-        words.now marks.old records.old result marks.new records.new }
+pub fn find_concentric_circles(image: &mut BitMatrix, records: &mut [u32], capacity: usize) -> usize
+    requires { Room capacity records.old 0 }
+    ensures kept { Kept image.old image.new }
+    ensures listed { Listed (concentric_circles image.old.shape capacity) capacity
+        image.old.words.now image.old.marks.now records.old result image.new.marks.now records.new }
 {
     let mut found = 0;
-    for row in (6..shape.height - 6).step_by(2) {
-        found = sweep_row(words, marks, records, shape, capacity, row, found);
+    for row in (6..image.shape.height - 6).step_by(2) {
+        found = sweep_row(image, records, capacity, row, found);
         if found > capacity {
             return found;
         }

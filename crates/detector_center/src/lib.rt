@@ -3,11 +3,11 @@
 #![tactic(auto)]
 
 ghost use Rattle.std.specs.Prelude.{◌≡◌};
-ghost use Rattle.reads.specs.RunsClauses.{Ran};
-ghost use Rattle.detector_walks.specs.WalksClauses.{Lent};
 ghost use Rattle.detector_center.specs.Center.{find_center, corrected};
+ghost use Rattle.bit_matrix.specs.ImageClauses.{RanOn};
+ghost use Rattle.bit_matrix.specs.ShapeClauses.{Inside};
 
-use bit_matrix::Shape;
+use bit_matrix::BitMatrix;
 use rxing_result_point::{Point, PointU};
 use sines::Sines;
 
@@ -35,18 +35,12 @@ pub fn find_center(p1: Point, p2: Point, p3: Point) -> Point
 }
 
 // The corrected centre. It may lie outside the image.
-pub fn corrected_center(
-    words: &[u64],
-    marks: &mut [u64],
-    shape: Shape,
-    center: PointU,
-    sines: &Sines,
-) -> PointU
-    requires { Lent shape words.now marks.old center }
-    ensures { Ran (corrected shape center) words.now marks.old result marks.new }
+pub fn corrected_center(image: &mut BitMatrix, center: PointU, sines: &Sines) -> PointU
+    requires { Inside image.old.shape center.x center.y }
+    ensures { RanOn (corrected image.old.shape center) image.old result image.new }
 {
-    let first = detector_walks::find_width_at_degree(words, marks, shape, center, sines, 7);
-    let second = detector_walks::find_width_at_degree(words, marks, shape, center, sines, 97);
+    let first = detector_walks::find_width_at_degree(image, center, sines, 7);
+    let second = detector_walks::find_width_at_degree(image, center, sines, 97);
     let found = find_center(first.left, first.right, second.left);
     rxing_result_point::round_to_point_u(found)
 }

@@ -1,11 +1,11 @@
 // `calculate_high_accuracy_center` of detector.rs: the corrected centre, written into a circle that is lent.
 #![tactic(auto)]
 
-ghost use Rattle.reads.specs.RunsClauses.{Ran};
-ghost use Rattle.detector_walks.specs.WalksClauses.{Lent};
+ghost use Rattle.bit_matrix.specs.ShapeClauses.{Inside};
+ghost use Rattle.bit_matrix.specs.ImageClauses.{RanOn};
 ghost use Rattle.detector_circle.specs.Circle.{corrected_circle};
 
-use bit_matrix::Shape;
+use bit_matrix::BitMatrix;
 use rxing_result_point::PointU;
 use sines::Sines;
 
@@ -18,16 +18,10 @@ pub struct Circle {
 
 impl Circle {
     // The centre is replaced, and the radius stays.
-    pub fn calculate_high_accuracy_center(
-        &mut self,
-        words: &[u64],
-        marks: &mut [u64],
-        shape: Shape,
-        sines: &Sines,
-    )
-        requires { Lent shape words.now marks.old self.old.center }
-        ensures { Ran (corrected_circle shape self.old) words.now marks.old self.new marks.new }
+    pub fn calculate_high_accuracy_center(&mut self, image: &mut BitMatrix, sines: &Sines)
+        requires { Inside image.old.shape self.old.center.x self.old.center.y }
+        ensures { RanOn (corrected_circle image.old.shape self.old) image.old self.new image.new }
     {
-        self.center = detector_center::corrected_center(words, marks, shape, self.center, sines);
+        self.center = detector_center::corrected_center(image, self.center, sines);
     }
 }

@@ -2,12 +2,11 @@
 #![tactic(auto)]
 
 ghost use Rattle.std.specs.Prelude.{◌≡◌, ◌<◌};
-ghost use Rattle.reads.specs.RunsClauses.{Ran};
-ghost use Rattle.bit_matrix.specs.ShapeClauses.{Image};
 ghost use Rattle.detector_colours.specs.Colours.{right_colour, test_degree};
 ghost use Rattle.detector_colours.specs.Looks.{look_past, look_offset};
+ghost use Rattle.bit_matrix.specs.ImageClauses.{RanOn};
 
-use bit_matrix::Shape;
+use bit_matrix::BitMatrix;
 use rxing_result_point::Point;
 use sines::Angle;
 
@@ -23,16 +22,8 @@ fn right_colour(k: usize, black: bool) -> bool
 }
 
 // The colour about the point that lies `offset` past the centre, turned about it. The operations are those of `get_point`, in its order.
-fn look(
-    words: &[u64],
-    marks: &mut [u64],
-    shape: Shape,
-    center: Point,
-    angle: Angle,
-    offset: Point,
-) -> Option<bool>
-    requires { Image shape words.now marks.old }
-    ensures { Ran (look_past shape center angle offset) words.now marks.old result marks.new }
+fn look(image: &mut BitMatrix, center: Point, angle: Angle, offset: Point) -> Option<bool>
+    ensures { RanOn (look_past image.old.shape center angle offset) image.old result image.new }
 {
     let sin = angle.sin;
     let cos = angle.cos;
@@ -40,23 +31,20 @@ fn look(
     let v = offset.y;
     let x = ieee::abs_f32_to_u32(cos * u - sin * v + center.x);
     let y = ieee::abs_f32_to_u32(sin * u + cos * v + center.y);
-    bit_matrix_area::try_get_area(words, marks, shape, x, y)
+    bit_matrix_area::try_get_area(image, x, y)
 }
 
 // Whether all eighteen points have the right colour; the first that has not ends it. None where a point's area passes the last column or row.
 pub fn test_degree(
-    words: &[u64],
-    marks: &mut [u64],
-    shape: Shape,
+    image: &mut BitMatrix,
     center: Point,
     offsets: &[Point; 18],
     angle: Angle,
 ) -> Option<bool>
-    requires { Image shape words.now marks.old }
-    ensures { Ran (test_degree (look_offset shape center offsets.now angle)) words.now marks.old result marks.new }
+    ensures { RanOn (test_degree (look_offset image.old.shape center offsets.now angle)) image.old result image.new }
 {
     for (k, offset) in offsets.iter().enumerate() {
-        let black = look(words, marks, shape, center, angle, *offset)?;
+        let black = look(image, center, angle, *offset)?;
         if !right_colour(k, black) {
             return Some(false);
         }

@@ -2,12 +2,11 @@
 #![tactic(auto)]
 
 ghost use Rattle.std.specs.Prelude.{◌≡◌, ◌+◌, ◌^◌, ◌≤◌, ◌<◌, get_or};
-ghost use Rattle.reads.specs.RunsClauses.{Ran};
-ghost use Rattle.bit_matrix.specs.ShapeClauses.{Image};
 ghost use Rattle.detector_columns.specs.Columns.{pointer_after, row_after, column_vector, potential_bullseye_array};
 ghost use Rattle.detector_columns.specs.ColumnsClauses.{try_column, verify_bullseye_vertical};
+ghost use Rattle.bit_matrix.specs.ImageClauses.{RanOn};
 
-use bit_matrix::Shape;
+use bit_matrix::BitMatrix;
 
 // The way of a walk along a column: up to higher rows, or down.
 #[derive(Clone, Copy)]
@@ -43,23 +42,20 @@ fn next_pointer(pointer: usize, local_bit: bool, last_color: bool) -> usize
 
 // Six runs of one colour each, white first, along a column from a row on. Row 0 is never looked at.
 pub fn get_column_vector(
-    words: &[u64],
-    marks: &mut [u64],
-    shape: Shape,
+    image: &mut BitMatrix,
     column: u32,
     start_row: u32,
     direction: Direction,
 ) -> [u32; 6]
-    requires { Image shape words.now marks.old }
-    ensures { Ran (column_vector shape column start_row direction) words.now marks.old result marks.new }
+    ensures { RanOn (column_vector image.old.shape column start_row direction) image.old result image.new }
 {
     let mut buckets = [0; 6];
     let mut row = start_row;
     let mut last_color = false;
     let mut pointer = 0;
     // A while: a count of the rows, beside the row, is one number more in the loop, and slower.
-    while row > 0 && row < shape.height {
-        let local_bit = bit_matrix::get(words, marks, shape, column, row);
+    while row > 0 && row < image.shape.height {
+        let local_bit = image.get(column, row);
         pointer = next_pointer(pointer, local_bit, last_color);
         if pointer > 5 {
             break;
@@ -76,28 +72,17 @@ pub fn build_potential_bullsey_array(vector_1: &[u32; 6], vector_2: &[u32; 6]) -
     requires { get_or vector_1.now 0 0 + get_or vector_2.now 0 0 < 2 ^ 32 }
     ensures { result ≡ potential_bullseye_array vector_1.now vector_2.now }
 {
-    let mut backwards = *vector_1;
-    backwards.reverse();
-    let mut potential_bullseye = [0; 11];
-    potential_bullseye[..6].copy_from_slice(&backwards);
-    potential_bullseye[5..].copy_from_slice(vector_2);
-    potential_bullseye[5] = vector_1[0] + vector_2[0];
-    potential_bullseye
+    let [a0, a1, a2, a3, a4, a5] = *vector_1;
+    let [b0, b1, b2, b3, b4, b5] = *vector_2;
+    [a5, a4, a3, a2, a1, a0 + b0, b1, b2, b3, b4, b5]
 }
 
 // The check of one column: its eleven runs, if they pass.
-fn try_column(
-    words: &[u64],
-    marks: &mut [u64],
-    shape: Shape,
-    row: u32,
-    column: u32,
-) -> Option<[u32; 11]>
-    requires { Image shape words.now marks.old }
-    ensures { Ran (try_column shape row column) words.now marks.old result marks.new }
+fn try_column(image: &mut BitMatrix, row: u32, column: u32) -> Option<[u32; 11]>
+    ensures { RanOn (try_column image.old.shape row column) image.old result image.new }
 {
-    let up_vector = get_column_vector(words, marks, shape, column, row, Direction::Up);
-    let down_vector = get_column_vector(words, marks, shape, column, row, Direction::Down);
+    let up_vector = get_column_vector(image, column, row, Direction::Up);
+    let down_vector = get_column_vector(image, column, row, Direction::Down);
     let potential_bullseye = build_potential_bullsey_array(&down_vector, &up_vector);
     if detector_widths::validate_bullseye_widths(&potential_bullseye) {
         Some(potential_bullseye)
@@ -107,18 +92,12 @@ fn try_column(
 }
 
 // A column is tried, then the next, then the one before, until one passes: its eleven runs.
-pub fn verify_bullseye_vertical(
-    words: &[u64],
-    marks: &mut [u64],
-    shape: Shape,
-    row: u32,
-    column: u32,
-) -> Option<[u32; 11]>
-    requires { Image shape words.now marks.old × (0 < column) × (column + 1 < 2 ^ 32) }
-    ensures { Ran (verify_bullseye_vertical shape row column) words.now marks.old result marks.new }
+pub fn verify_bullseye_vertical(image: &mut BitMatrix, row: u32, column: u32) -> Option<[u32; 11]>
+    requires { (0 < column) × (column + 1 < 2 ^ 32) }
+    ensures { RanOn (verify_bullseye_vertical image.old.shape row column) image.old result image.new }
 {
     for column in [column, column + 1, column - 1] {
-        if let Some(buckets) = try_column(words, marks, shape, row, column) {
+        if let Some(buckets) = try_column(image, row, column) {
             return Some(buckets);
         }
     }

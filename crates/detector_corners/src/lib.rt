@@ -3,33 +3,26 @@
 
 ghost use Rattle.std.specs.Prelude.{◌≡◌};
 ghost use Rattle.detector_boundary.specs.BoundaryClauses.{Placed};
-ghost use Rattle.detector_corners.specs.Corners.{corner, corner_by, corners_of};
+ghost use Rattle.detector_corners.specs.Corners.{corner_by, corners_of};
 
 use detector_boundary::Boundary;
 use detector_outcome::{Outcome, Turn};
 use rxing_result_point::{Point, PointU};
 use sines::Sines;
 
-fn plain_corner(x: u32, y: u32) -> Point
-    ensures { result ≡ corner x y }
-{
-    Point {
-        x: std::num::nearest_u32_to_f32(x),
-        y: std::num::nearest_u32_to_f32(y),
-    }
-}
-
 // A corner by a symbol's turn: turned about the turn's centre, plain, or none. The source casts one that is turned to f32 and back, which changes none up
 // to 2,048.
+// Its column and row, and no `PointU`: no plainer, since each of the four calls would then lay one out over four lines.
 fn corner_by(turn: Turn, x: u32, y: u32, sines: &Sines) -> Point
     ensures { result ≡ corner_by turn x y }
 {
+    let corner = PointU { x, y };
     match turn.outcome {
         Outcome::Turned { degree, .. } => {
-            rxing_result_point::get_point(turn.center, PointU { x, y }, sines, degree)
+            rxing_result_point::get_point(turn.center, corner, sines, degree)
         }
-        Outcome::NoTurn | Outcome::LostCentre { .. } => plain_corner(x, y),
-        Outcome::Ellipse => plain_corner(0, 0),
+        Outcome::NoTurn | Outcome::LostCentre { .. } => Point::from(corner),
+        Outcome::Ellipse => Point::from(PointU { x: 0, y: 0 }),
     }
 }
 

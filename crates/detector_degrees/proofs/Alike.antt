@@ -7,11 +7,11 @@ use Rattle.sines.specs.Sines.{angle_of}
 use Rattle.sines.specs.declared.Angle.{Angle}
 use Rattle.rxing_result_point.specs.declared.Point.{Point}
 use Rattle.rxing_result_point.specs.declared.PointU.{PointU}
-use Rattle.rxing_result_point.specs.Points.{turned}
+use Rattle.rxing_result_point.specs.Points.{point_at, turned}
 use Rattle.detector_colours.specs.Colours.{right_colour, if_degree, points_from, test_degree}
 use Rattle.detector_colours.specs.Looks.{look_past, look_offset}
 use Rattle.detector_degrees.specs.Degrees.{point_of, degrees_from, look_at, try_degrees}
-use Rattle.detector_degrees.specs.Offsets.{offset_past, point_at, EachPoint}
+use Rattle.detector_degrees.specs.Offsets.{offset_past, EachPoint}
 
 points_alike : {look look' : ℕ → Reads (Option Bool)} → ((k : ℕ) → k < 18 → look k ≡ look' k) → (n k : ℕ) → k + n ≤ 18 → points_from look n k ≡ points_from look' n k
 unfolding points_from

@@ -6,10 +6,6 @@ use Rattle.rxing_result_point.specs.declared.Point.{Point}
 use Rattle.rxing_result_point.specs.declared.PointU.{PointU}
 use Rattle.rxing_result_point.specs.Points.{real}
 
--- a pixel as a point
-abbrev pub point_at : PointU → Point
-point_at p = record { x = real p.x; y = real p.y }
-
 -- how far a pixel lies past a centre
 abbrev pub offset_past : Point → PointU → Point
 offset_past center p = record { x = sub binary32 (real p.x) center.x; y = sub binary32 (real p.y) center.y }

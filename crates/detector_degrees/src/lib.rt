@@ -2,31 +2,20 @@
 #![tactic(auto)]
 
 ghost use Rattle.std.specs.Prelude.{◌≡◌, ℕ};
-ghost use Rattle.reads.specs.RunsClauses.{Ran};
-ghost use Rattle.bit_matrix.specs.ShapeClauses.{Image};
+ghost use Rattle.bit_matrix.specs.ImageClauses.{RanOn};
 ghost use Rattle.detector_colours.specs.Looks.{look_offset};
 ghost use Rattle.detector_degrees.specs.Degrees.{point_of, degrees_from, try_degrees};
-ghost use Rattle.detector_degrees.specs.Offsets.{point_at, offset_past, EachPoint};
+ghost use Rattle.detector_degrees.specs.Offsets.{offset_past, EachPoint};
 
-use bit_matrix::Shape;
+use bit_matrix::BitMatrix;
 use rxing_result_point::{Point, PointU};
 use sines::Sines;
-
-// A pixel as a point.
-fn point_at(p: PointU) -> Point
-    ensures { result ≡ point_at p }
-{
-    Point {
-        x: std::num::nearest_u32_to_f32(p.x),
-        y: std::num::nearest_u32_to_f32(p.y),
-    }
-}
 
 // How far a pixel lies past the centre.
 fn offset_past(center: Point, p: PointU) -> Point
     ensures { result ≡ offset_past center p }
 {
-    let point = point_at(p);
+    let point = Point::from(p);
     Point {
         x: point.x - center.x,
         y: point.y - center.y,
@@ -42,21 +31,17 @@ fn offsets_past(center: Point, groups: [[PointU; 3]; 6]) -> [Point; 18]
 
 // The degrees 0, 2, .. 348 in order. A point whose area passes the last column or row ends them.
 fn try_offsets(
-    words: &[u64],
-    marks: &mut [u64],
-    shape: Shape,
+    image: &mut BitMatrix,
     center: Point,
     offsets: &[Point; 18],
     sines: &Sines,
 ) -> Option<u32>
-    requires { Image shape words.now marks.old }
-    ensures { Ran (degrees_from (look_offset shape center offsets.now) 175 0)
-        words.now marks.old result marks.new }
+    ensures { RanOn (degrees_from (look_offset image.old.shape center offsets.now) 175 0) image.old result image.new }
 {
     for i in 0..175 {
         let degree = i * 2;
         let angle = sines.angle(degree);
-        let found = detector_colours::test_degree(words, marks, shape, center, offsets, angle)?;
+        let found = detector_colours::test_degree(image, center, offsets, angle)?;
         if found {
             return Some(degree);
         }
@@ -67,17 +52,14 @@ fn try_offsets(
 // The first degree at which the points of the six groups, turned about the centre, have their colours. The groups come by value: they are made for this
 // call, and a reference to them would be no plainer.
 pub fn try_degrees(
-    words: &[u64],
-    marks: &mut [u64],
-    shape: Shape,
+    image: &mut BitMatrix,
     center: PointU,
     groups: [[PointU; 3]; 6],
     sines: &Sines,
 ) -> Option<u32>
-    requires { Image shape words.now marks.old }
-    ensures { Ran (try_degrees shape center groups) words.now marks.old result marks.new }
+    ensures { RanOn (try_degrees image.old.shape center groups) image.old result image.new }
 {
-    let center = point_at(center);
+    let center = Point::from(center);
     let offsets = offsets_past(center, groups);
-    try_offsets(words, marks, shape, center, &offsets, sines)
+    try_offsets(image, center, &offsets, sines)
 }

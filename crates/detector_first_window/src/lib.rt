@@ -1,12 +1,11 @@
 // The first window of a row, for `find_next_bullseye_horizontal` of detector.rs, run by run: where the colour changes is found by whole words.
 #![tactic(auto)]
 
-ghost use Rattle.std.specs.Prelude.{◌≡◌, ◌+◌, ◌-◌, ◌*◌, ◌%◌, ◌^◌, ◌≤◌, ◌<◌, min, length};
-ghost use Rattle.bit_matrix.specs.Shape.{size};
+ghost use Rattle.std.specs.Prelude.{◌≡◌, ◌+◌, ◌-◌, ◌*◌, ◌%◌, ◌^◌, ◌≤◌, ◌<◌, min};
 ghost use Rattle.bit_matrix.specs.ShapeClauses.{Limits};
 ghost use Rattle.detector_first_window.specs.FirstWindowClauses.{Swept};
 
-use bit_matrix::Shape;
+use bit_matrix::{Shape, Unmarked};
 use detector_window::{Bullseye, Ring};
 
 // The first word of a row. A row's words after it fit too.
@@ -26,17 +25,18 @@ fn word_end(column: u32, limit: u32) -> u32
 }
 
 // The first window from column `from` on, past the white. Nothing is marked. `changes` has the changes of colour from `column` to before `stop`.
-pub fn sweep(words: &[u64], shape: Shape, row: u32, from: u32, limit: u32) -> Option<Bullseye>
-    requires { Limits shape × (length words.now ≡ size shape) × (limit ≤ shape.width) }
-    ensures { Swept words.now shape row from limit result }
+pub fn sweep(image: &Unmarked, row: u32, from: u32, limit: u32) -> Option<Bullseye>
+    requires { limit ≤ image.now.shape.width }
+    ensures { Swept image.now.words.now image.now.shape row from limit result }
 {
     if limit <= from {
         return None;
     }
+    let first = first_word(image.shape, row);
     let mut ring = Ring::new(from);
     let mut column = from;
     let mut stop = word_end(from, limit);
-    let mut changes = bit_runs::changes(words, first_word(shape, row), from as usize, true);
+    let mut changes = bit_runs::changes(image.words, first, from as usize, true);
     loop {
         let n = changes.trailing_zeros();
         let end = column + n;
@@ -52,7 +52,7 @@ pub fn sweep(words: &[u64], shape: Shape, row: u32, from: u32, limit: u32) -> Op
                 return None;
             }
             let black = ring.is_black();
-            changes = bit_runs::changes(words, first_word(shape, row), stop as usize, black);
+            changes = bit_runs::changes(image.words, first, stop as usize, black);
             column = stop;
             stop = word_end(stop, limit);
         }

@@ -1,13 +1,15 @@
 -- What `box_symbol` comes to, an outcome's words in a record, and the class of a symbol (docs/MANUAL.md, "Records and printed lines" and
 -- "Handling classes"). Definitions only. Assumes nothing.
-use Rattle.std.specs.Prelude.{ℕ, ◌+◌, ◌/◌, ◌%◌}
+use Rattle.std.specs.Prelude.{ℕ, ◌+◌, ◌/◌, ◌%◌, get_or, [], ◌∷◌}
 use Rattle.std.specs.Float.{binary32}
 use Rattle.std.specs.Float.Ieee.{to_bits}
 use Rattle.rxing_result_point.specs.declared.PointU.{PointU}
 use Rattle.rxing_result_point.specs.Points.{real}
 use Rattle.detector_outcome.specs.declared.Outcome.{Outcome}
 use Rattle.detector_outcome.specs.declared.Turn.{Turn}
+use Rattle.detector_outcome.specs.declared.Class.{Class}
 use Rattle.detector_outcome.specs.declared.Outcome.TheVariants.{Turned, NoTurn, LostCentre, Ellipse}
+use Rattle.detector_outcome.specs.declared.Class.TheVariants.{Upright, QuarterTurn, HalfTurn, ThreeQuarterTurn, WithoutTurn}
 
 -- what a turn holds in each of the four cases
 abbrev pub turned_by : ℕ → ℕ → PointU → Turn
@@ -52,3 +54,15 @@ quarter_of degree = (degree + 45) / 90 % 4
 -- the class of a symbol: with a turn its quarter, without one 4
 abbrev pub class_of : Turn → ℕ
 class_of turn = if_outcome (λ degree scale. quarter_of degree) 4 (λ scale. 4) 4 turn.outcome
+
+-- the word for a class
+abbrev pub class_number : Class → ℕ
+class_number Upright = 0
+class_number QuarterTurn = 1
+class_number HalfTurn = 2
+class_number ThreeQuarterTurn = 3
+class_number WithoutTurn = 4
+
+-- the class with that word
+abbrev pub class_numbered : ℕ → Class
+class_numbered n = get_or (Upright ∷ QuarterTurn ∷ HalfTurn ∷ ThreeQuarterTurn ∷ []) n WithoutTurn

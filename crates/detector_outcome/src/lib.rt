@@ -2,7 +2,7 @@
 #![tactic(auto)]
 
 ghost use Rattle.std.specs.Prelude.{◌≡◌, ◌<◌};
-ghost use Rattle.detector_outcome.specs.Outcomes.{outcome_number, degree_of, scale_of, rotation_bits, quarter_of, class_of};
+ghost use Rattle.detector_outcome.specs.Outcomes.{outcome_number, degree_of, scale_of, rotation_bits, class_number, quarter_of, class_of};
 
 use rxing_result_point::PointU;
 
@@ -61,22 +61,45 @@ pub struct Turn {
     pub center: PointU,
 }
 
-// A degree in quarters of a full turn, to the nearest.
-#[tactic(auto, unfolding(crate::specs::Outcomes::quarter_of))]
-pub fn quarter_of(degree: u32) -> u32
-    requires { degree < 360 }
-    ensures { result ≡ quarter_of degree }
-{
-    (degree + 45) / 90 % 4
+// The handling class: a turn in quarters, to the nearest, or that there is none. By the word for it in a record.
+#[derive(Clone, Copy)]
+pub enum Class {
+    Upright = 0,
+    QuarterTurn = 1,
+    HalfTurn = 2,
+    ThreeQuarterTurn = 3,
+    WithoutTurn = 4,
 }
 
-// The class of a symbol: the quarter of its turn, and 4 without one.
-pub fn class_of(turn: Turn) -> u32
+impl From<Class> for u32 {
+    ghost from_gives = { λ class n. n ≡ class_number class };
+
+    fn from(class: Class) -> u32 {
+        class as u32
+    }
+}
+
+// The class of a turn by so many degrees.
+#[tactic(auto, unfolding(crate::specs::Outcomes::quarter_of))]
+pub fn quarter_of(degree: u32) -> Class
+    requires { degree < 360 }
+    ensures { class_number result ≡ quarter_of degree }
+{
+    match degree {
+        45..=134 => Class::QuarterTurn,
+        135..=224 => Class::HalfTurn,
+        225..=314 => Class::ThreeQuarterTurn,
+        _ => Class::Upright,
+    }
+}
+
+// The class of a symbol.
+pub fn class_of(turn: Turn) -> Class
     requires { degree_of turn.outcome < 360 }
-    ensures { result ≡ class_of turn }
+    ensures { class_number result ≡ class_of turn }
 {
     match turn.outcome {
         Outcome::Turned { degree, .. } => quarter_of(degree),
-        Outcome::NoTurn | Outcome::LostCentre { .. } | Outcome::Ellipse => 4,
+        Outcome::NoTurn | Outcome::LostCentre { .. } | Outcome::Ellipse => Class::WithoutTurn,
     }
 }

@@ -1,5 +1,5 @@
 -- A cell by its test, products that fit, and three points as a list. Assumes nothing.
-use Rattle.std.proofs.Common.{ℕ, zero, suc, ◌-◌, ◌*◌, ◌%◌, ◌≤◌, mul-le-mul, arith, List, [], ◌∷◌, ◌≡◌, T, ltb, ltb→lt, length, get_or}
+use Rattle.std.proofs.Common.{ℕ, zero, suc, ◌-◌, ◌*◌, ◌≤◌, mul-le-mul, arith, List, [], ◌∷◌, ◌≡◌, T, ltb, ltb→lt, length, get_or}
 use lib.Ieee.Fits.{and_l, and_r}
 use Rattle.rxing_result_point.specs.declared.PointU.{PointU}
 use Rattle.detector_boundary.specs.declared.Boundary.{Boundary}
@@ -13,18 +13,6 @@ module _ (p : PointU) (b : Boundary) (cell : T (is_cell p)) (placed : Placed b) 
       let x : p.x ≤ 30 = omega (arith, ltb→lt p.x 30 (and_l (ltb p.x 30) (ltb p.y 33) cell)) in
       let width : b.right - b.left ≤ 2048 = omega (arith, placed.right) in
       mul-le-mul x width
-
-  pub row_fits : p.y * (b.top - b.bottom) ≤ 67584
-  row_fits =
-      let y : p.y ≤ 33 = omega (arith, ltb→lt p.y 33 (and_r (ltb p.x 30) (ltb p.y 33) cell)) in
-      let height : b.top - b.bottom ≤ 2048 = omega (arith, placed.top) in
-      mul-le-mul y height
-
-  pub shift_fits : p.y % 2 * (b.right - b.left) ≤ 2048
-  shift_fits =
-      let odd : p.y % 2 ≤ 1 = omega arith in
-      let width : b.right - b.left ≤ 2048 = omega (arith, placed.right) in
-      mul-le-mul odd width
 
 pub cell_at : (ps : List PointU) (k : ℕ) → T (are_cells ps) → T (is_cell (get_or ps k (point 0 0)))
 cell_at [] k t = tt

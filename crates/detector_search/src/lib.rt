@@ -2,13 +2,14 @@
 // ellipse check on or off.
 #![tactic(auto)]
 
+ghost use Rattle.std.specs.Prelude.{◌≡◌};
 ghost use Rattle.bit_matrix.specs.ShapeClauses.{Image};
 ghost use Rattle.detector_candidates.specs.CandidatesClauses.{Room};
 ghost use Rattle.detector_verdict.specs.Verdict.{numbers_of};
 ghost use Rattle.detector_search.specs.Search.{search_at};
 ghost use Rattle.detector_search.specs.SearchClauses.{Sought};
 
-use bit_matrix::Shape;
+use bit_matrix::{BitMatrix, Shape};
 use detector_verdict::Counts;
 
 // What a search is told: the image's shape, how many records there is room for, and whether ellipses are told from circles.
@@ -25,16 +26,18 @@ pub fn search(words: &[u64], marks: &mut [u64], records: &mut [u32], setting: Se
     ensures { Sought (search_at setting) setting.capacity words.now marks.old records.old (numbers_of result) marks.new
         records.new }
 {
-    let shape = setting.shape;
+    let mut image = BitMatrix {
+        words,
+        marks,
+        shape: setting.shape,
+    };
     let capacity = setting.capacity;
-    let found = detector_candidates::find_concentric_circles(
-        words, marks, records, shape, capacity,
-    );
+    let found = detector_candidates::find_concentric_circles(&mut image, records, capacity);
     let counts = detector_verdict::verdict(records, found, capacity);
     let kept = counts.kept as usize;
     if kept == 0 {
         return counts;
     }
-    detector_boxes::box_kept(words, marks, records, shape, kept, setting.ellipse);
+    detector_boxes::box_kept(&mut image, records, kept, setting.ellipse);
     counts
 }

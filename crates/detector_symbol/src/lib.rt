@@ -5,7 +5,7 @@ ghost use Rattle.std.specs.Prelude.{◌≡◌, ◌<◌, length};
 ghost use Rattle.std.proofs.lemmas.List.Edits.{sets};
 ghost use Rattle.detector_symbol.specs.Symbols.{corner_words, with_symbol};
 
-use detector_outcome::Turn;
+use detector_outcome::{Class, Turn};
 use rxing_result_point::Point;
 
 // A symbol's turn, its corners (left, bottom), (left, top), (right, bottom), (right, top), and its class.
@@ -13,7 +13,7 @@ use rxing_result_point::Point;
 pub struct Symbol {
     pub turn: Turn,
     pub corners: [Point; 4],
-    pub class: u32,
+    pub class: Class,
 }
 
 // A corner's two words, from that index on.
@@ -39,5 +39,5 @@ pub fn symbol_fields(fields: &mut [u32; 40], symbol: Symbol)
     for (i, corner) in symbol.corners.iter().enumerate() {
         store_corner(fields, records::CORNERS + 2 * i, *corner);
     }
-    fields[records::CLASS] = symbol.class;
+    fields[records::CLASS] = u32::from(symbol.class);
 }

@@ -3,12 +3,12 @@
 #![tactic(auto)]
 
 ghost use Rattle.std.specs.Prelude.{◌≡◌, T};
-ghost use Rattle.reads.specs.RunsClauses.{Ran};
 ghost use Rattle.detector_size.specs.SizeClauses.{is_scale};
 ghost use Rattle.detector_turn.specs.Scales.{is_outside, attempt_rotation_box, try_scales};
-ghost use Rattle.detector_turn.specs.ScalesClauses.{LentCircle};
+ghost use Rattle.detector_turn.specs.ScalesClauses.{InsideCircle};
+ghost use Rattle.bit_matrix.specs.ImageClauses.{RanOn};
 
-use bit_matrix::Shape;
+use bit_matrix::{BitMatrix, Shape};
 use detector_circle::Circle;
 use detector_outcome::{Outcome, Turn};
 use rxing_result_point::PointU;
@@ -26,45 +26,37 @@ fn is_outside(shape: Shape, p: PointU) -> bool
 
 // One scale, about the corrected centre. What the source does before and after it, the centre's correction and the corners' turn, is left to the callers.
 pub fn attempt_rotation_box(
-    words: &[u64],
-    marks: &mut [u64],
-    shape: Shape,
+    image: &mut BitMatrix,
     circle: Circle,
     scale: f64,
     sines: &Sines,
 ) -> Option<u32>
-    requires { LentCircle shape words.now marks.old circle × T (is_scale scale) }
-    ensures { Ran (attempt_rotation_box shape circle scale) words.now marks.old result marks.new }
+    requires { InsideCircle image.old.shape circle × T (is_scale scale) }
+    ensures { RanOn (attempt_rotation_box image.old.shape circle scale) image.old result image.new }
 {
     let center = circle.center;
-    let boundary = detector_boundary::scaled_boundary(shape, center, circle.radius, scale);
+    let boundary = detector_boundary::scaled_boundary(image.shape, center, circle.radius, scale);
     let points = detector_points::adjusted_orientation_points(boundary);
-    detector_degrees::try_degrees(words, marks, shape, center, points, sines)
+    detector_degrees::try_degrees(image, center, points, sines)
 }
 
 // The scales in order. The corrected centre of one is where the next starts; one outside the image ends them.
-pub fn try_scales(
-    words: &[u64],
-    marks: &mut [u64],
-    shape: Shape,
-    circle: Circle,
-    sines: &Sines,
-) -> Turn
-    requires { LentCircle shape words.now marks.old circle }
-    ensures { Ran (try_scales shape circle) words.now marks.old result marks.new }
+pub fn try_scales(image: &mut BitMatrix, circle: Circle, sines: &Sines) -> Turn
+    requires { InsideCircle image.old.shape circle }
+    ensures { RanOn (try_scales image.old.shape circle) image.old result image.new }
 {
     let mut circle = circle;
     for (i, percent) in ACCEPTED_SCALES.iter().enumerate() {
         let scale = i as u32 + 1;
         let center = circle.center;
-        circle.calculate_high_accuracy_center(words, marks, shape, sines);
-        if is_outside(shape, circle.center) {
+        circle.calculate_high_accuracy_center(image, sines);
+        if is_outside(image.shape, circle.center) {
             return Turn {
                 outcome: Outcome::LostCentre { scale },
                 center,
             };
         }
-        let rotation = attempt_rotation_box(words, marks, shape, circle, *percent, sines);
+        let rotation = attempt_rotation_box(image, circle, *percent, sines);
         if let Some(degree) = rotation {
             return Turn {
                 outcome: Outcome::Turned { degree, scale },

@@ -1,8 +1,7 @@
 -- The variance of small runs is a number, and not negative (`variance_unsigned`). Assumes nothing.
 use Rattle.std.specs.Prelude.{◌≡◌, ℕ, zero, suc, ◌+◌, ◌-◌, ◌*◌, ◌/◌, ◌^◌, ◌<◌, ◌≤◌, Bool, true, false, cond, not, ◌&&◌, ◌||◌, T, List, ℤ, pos, negsuc, ◌==◌, nat_lt, slice_index}
 use Rattle.std.proofs.Math.Nat.{mul-le-mul}
-use Rattle.std.proofs.Common.{mul-pos, le_of_lt, le_of_eq, true≢false, sym, ltb→lt, eqb→eq}
-use native.Mathlib.Omega.{arith}
+use Rattle.std.proofs.Common.{arith, mul-pos, le_of_lt, le_of_eq, true≢false, sym, ltb→lt, eqb→eq}
 use Rattle.std.specs.Bool.{beq}
 use Rattle.std.proofs.Math.Path.{refl}
 use Rattle.std.proofs.Math.Dec.{eqb-suc-zero}

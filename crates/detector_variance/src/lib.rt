@@ -8,7 +8,8 @@ ghost use Rattle.detector_variance.specs.VarianceClauses.{Short};
 
 // That runs are `Short` stands in clauses: a type for it would be made of two slices by one caller, and taken apart here.
 
-// Which runs a sum takes, by 1: the even ones; of the odd ones all but the middle one; all but the first and the middle one.
+// Which runs a sum takes, by 1: the even ones; of the odd ones all but the middle one; all but the first and the middle one. As `bool`s they would be no
+// plainer: the definition `takes` reads numbers, so that each clause would first turn them into these.
 const EVENS: [u8; 11] = [1, 0, 1, 0, 1, 0, 1, 0, 1, 0, 1];
 
 const ODDS: [u8; 11] = [0, 1, 0, 1, 0, 0, 0, 1, 0, 1, 0];

@@ -1,23 +1,20 @@
 // `calculate_circle_variance` of detector.rs for each kept candidate, into its record.
 #![tactic(auto)]
 
-ghost use Rattle.std.specs.Prelude.{◌≡◌, map, ◌+◌, ◌*◌, ◌≤◌, length};
+ghost use Rattle.std.specs.Prelude.{◌≡◌, map, ◌*◌, ◌≤◌, length};
 ghost use Rattle.records.specs.Records.{rows};
-ghost use Rattle.records.specs.RecordsClauses.{get, Became, Each};
+ghost use Rattle.records.specs.RecordsClauses.{Became, Each};
 ghost use Rattle.detector_variances.specs.Variances.{variance_bits, with_variance};
 ghost use Rattle.detector_variances.specs.VariancesClauses.{Small};
 
-// The bits of record i's variance.
-fn variance_bits(records: &[u32], i: usize) -> u32
-    requires { (40 * i + 40 ≤ length records.now) × Small (get records.now i) }
-    ensures { result ≡ variance_bits (get records.now i) }
+// The bits of a candidate's variance.
+fn variance_bits(candidate: &[u32; 40]) -> u32
+    requires { Small candidate.now }
+    ensures { result ≡ variance_bits candidate.now }
 {
-    let row = 40 * i + records::ROW_RUNS;
-    let column = 40 * i + records::COLUMN_RUNS;
-    let end = 40 * i + records::VARIANCE;
     let variance = detector_variance::calculate_circle_variance(
-        &records[row..column],
-        &records[column..end],
+        &candidate[records::ROW_RUNS..records::COLUMN_RUNS],
+        &candidate[records::COLUMN_RUNS..records::VARIANCE],
     );
     std::num::f32_to_bits_with_nan(variance)
 }
@@ -28,6 +25,7 @@ pub fn set_variances(records: &mut [u32], count: usize)
     ensures { Became count records.old (map with_variance (rows count records.old)) records.new }
 {
     for i in 0..count {
-        records[40 * i + records::VARIANCE] = variance_bits(records, i);
+        let bits = variance_bits(&records::front(records, count)[i]);
+        records[40 * i + records::VARIANCE] = bits;
     }
 }

@@ -1,22 +1,14 @@
 -- The four ways in which `verdict` returns. Assumes nothing.
 use Rattle.std.proofs.Common.{ℕ, ◌+◌, ◌-◌, ◌*◌, ◌≤◌, ◌<◌, zero-add, arith, ◌≡◌, refl, sym, ap, ap₂, ◌∙◌, List, [], ◌++◌, lt-ltb, le-ltb, eq-eqb, ne_eqb, length, take, drop, replicate}
 use Rattle.records.specs.Records.{Record, rows, flat, laid_out}
-use Rattle.detector_kept.specs.KeptClauses.{Candidates, KeptAndRanked}
+use Rattle.detector_kept.specs.KeptClauses.{KeptAndRanked}
 use Rattle.detector_kept.specs.Kept.{ranked}
 use Rattle.detector_kept.specs.KeptLaws.{ranked_few}
 use Rattle.detector_verdict.specs.VerdictLaws.{no_records}
 use Rattle.detector_verdict.specs.Verdict.{Numbers, numbers_of, Verdict, verdict_of, verdict}
-use Rattle.detector_verdict.specs.VerdictClauses.{Judgeable, Holds, Judged}
+use Rattle.detector_verdict.specs.VerdictClauses.{Holds, Judged}
 use Rattle.detector_verdict.specs.declared.Answer.TheVariants.{Kept, TooMany, NoneFound, NoneKept}
 use Rattle.detector_verdict.specs.declared.Counts.{Counts}
-
--- the candidates fit the buffer
-pub kept_requires : {capacity found : ℕ} {records : List ℕ} → Judgeable capacity found records → found ≤ capacity → Candidates found records
-kept_requires judgeable fits = record {
-  few = omega (arith, judgeable.most);
-  held = omega (arith, judgeable.held);
-  small = judgeable.small fits;
-}
 
 module _ {capacity found : ℕ} {before : List ℕ} (candidates : List Record) (holds : Holds capacity found before candidates) where
   -- by an answer and the records that it keeps

@@ -6,26 +6,20 @@ ghost use Rattle.records.specs.Records.{Record};
 ghost use Rattle.detector_verdict.specs.Verdict.{number_of, numbers_of};
 ghost use Rattle.detector_verdict.specs.VerdictClauses.{Judgeable, Holds, Judged};
 
-// What a search answers: some candidates are kept, or why none is.
+// What a search answers: some candidates are kept, or why none is. By the numbers that hosts read.
 #[derive(Clone, Copy, PartialEq, Eq)]
 pub enum Answer {
-    Kept,
-    TooMany,
-    NoneFound,
-    NoneKept,
+    Kept = 0,
+    TooMany = 7,
+    NoneFound = 8,
+    NoneKept = 9,
 }
 
-// The numbers that hosts read.
 impl From<Answer> for u32 {
     ghost from_gives = { λ answer n. n ≡ number_of answer };
 
     fn from(answer: Answer) -> u32 {
-        match answer {
-            Answer::Kept => 0,
-            Answer::TooMany => 7,
-            Answer::NoneFound => 8,
-            Answer::NoneKept => 9,
-        }
+        answer as u32
     }
 }
 

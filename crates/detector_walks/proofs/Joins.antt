@@ -1,17 +1,21 @@
 -- So many steps of a walk, from a column on: the loop that takes them, and how they are joined to the whole walk. Assumes nothing.
-use Rattle.std.proofs.Common.{ℕ, zero, suc, ◌+◌, ◌-◌, ◌^◌, ◌≤◌, ◌<◌, eq-or-lt_of_le, arith, Bool, true, false, cond, true≢false, List, inl, inr, ◌≡◌, refl, sym, ap, subst, ◌∙◌, length, ap₂}
+use Rattle.std.proofs.Common.{ℕ, zero, suc, ◌+◌, ◌-◌, ◌^◌, ◌≤◌, ◌<◌, eq-or-lt_of_le, arith, Bool, true, false, cond, true≢false, List, inl, inr, ◌≡◌, refl, sym, ap, subst, ◌∙◌, ap₂}
 use Rattle.reads.specs.Reads.{Reads, done, ◌>>=◌, value}
 use Rattle.reads.specs.Runs.{value_of, marks_of}
 use Rattle.reads.specs.RunsClauses.{Ran, Resumes}
 use Rattle.reads.proofs.RunsLaws.{ran_done, resumes_start, resumes_step, resumes_then, resumes_else, resumes_end}
 use Rattle.bit_matrix.specs.declared.Shape.{Shape}
+use Rattle.bit_matrix.specs.declared.BitMatrix.{BitMatrix}
 use Rattle.bit_matrix.specs.ShapeClauses.{Limits, Inside}
+use Rattle.bit_matrix.specs.ImageClauses.{Kept, RanOn}
+use Rattle.bit_matrix.proofs.ImageLaws.{kept_on, onto}
 use Rattle.sines.specs.declared.Angle.{Angle}
 use Rattle.rxing_result_point.specs.declared.PointU.{PointU}
 use Rattle.detector_walks.specs.Walks.{walk_point, white_point, left_from, right_from}
 use Rattle.detector_walks.specs.WalksClauses.{OfDegree, steps, white_back, column, Taken, steps_remaining}
-use Rattle.detector_walks.specs.StepsLaws.{steps_right, steps_few}
-use Rattle.detector_walks.specs.WalksLaws.{white_at, next, from_step, walk_stops}
+use Rattle.detector_walks.specs.StepsLaws.{steps_right}
+use Rattle.detector_walks.specs.WalksLaws.{white_at, next, from_step}
+use Rattle.detector_walks.proofs.Degrees.{steps_few_of, walk_stops_of}
 
 -- ---- tests that are the same of each column take the same steps
 pub same_steps : (test test' : ℕ → Reads Bool) (n x : ℕ) → ((i : ℕ) → i < n → test (x + i) ≡ test' (x + i)) → steps test n x ≡ steps test' n x
@@ -31,18 +35,15 @@ right_steps shape center angle zero x = refl
 right_steps shape center angle (suc n) x =
     ap (λ (q : Reads ℕ). white_point shape (walk_point center angle x) >>= λ (white : Bool). cond white q (done x)) (right_steps shape center angle n (x + 1))
 
+-- a place inside an image stays inside
+pub still_inside : {before after : BitMatrix} {x y : ℕ} → Kept before after → Inside before.shape x y → Inside after.shape x y
+still_inside kept inside = rw kept.shape inside
+
 -- the loop of n steps from column x on: i of them are taken
 module _ (words : List ℕ) (test : ℕ → Reads Bool) (n x : ℕ) where
   pub record Stepping (marks₀ marks : List ℕ) (i : ℕ) : Type 0 where
     pub few : i ≤ n
-    pub sized : length marks ≡ length words
     pub resumes : Resumes words (steps test (n - i) (x + i)) marks (steps test n x) marks₀
-
-  pub steps_begin : {marks : List ℕ} → length marks ≡ length words → Stepping marks marks 0
-  steps_begin {marks} same =
-      let here : x + 0 ≡ x = omega arith in
-      let all : n - 0 ≡ n = omega arith in
-      record { few = omega arith; sized = same; resumes = rw (here, all) resumes_start }
 
   module _ {marks₀ marks : List ℕ} {i : ℕ} (stepping : Stepping marks₀ marks i) where
     module _ {white : Bool} {after : List ℕ} (more : i < n) (ran : Ran (test (x + i)) words marks white after) where
@@ -52,10 +53,10 @@ module _ (words : List ℕ) (test : ℕ → Reads Bool) (n x : ℕ) where
           let one : n - i ≡ suc (n - (i + 1)) = omega arith in
           resumes_step _ ran (rw one at stepping.resumes)
 
-      pub steps_on : white ≡ true → length after ≡ length marks → Stepping marks₀ after (i + 1)
-      steps_on e kept =
+      pub steps_on : white ≡ true → Stepping marks₀ after (i + 1)
+      steps_on e =
           let next : x + i + 1 ≡ x + (i + 1) = omega arith in
-          record { few = omega arith; sized = kept ∙ stepping.sized; resumes = rw next at (resumes_then _ _ e step) }
+          record { few = omega arith; resumes = rw next at (resumes_then _ _ e step) }
 
       pub steps_stop : white ≡ false → Ran (steps test n x) words marks₀ (x + i) after
       steps_stop e = resumes_end (ran_done (x + i)) (resumes_else _ _ e step)
@@ -75,8 +76,8 @@ module _ (words : List ℕ) (test : ℕ → Reads Bool) (n : ℕ) {marks₀ mark
         let same : 0 + i ≡ i = omega arith in
         rw same ran
 
-    pub count_on : white ≡ true → length after ≡ length marks → Stepping words test n 0 marks₀ after (i + 1)
-    count_on e kept = steps_on words test n 0 stepping more here e kept
+    pub count_on : white ≡ true → Stepping words test n 0 marks₀ after (i + 1)
+    count_on e = steps_on words test n 0 stepping more here e
 
     pub count_stop : white ≡ false → Ran (steps test n 0) words marks₀ i after
     count_stop e =
@@ -89,55 +90,53 @@ module _ (words : List ℕ) (test : ℕ → Reads Bool) (n : ℕ) {marks₀ mark
       rw same at (steps_over words test n 0 stepping h)
 
 -- ---- the loop of n steps from column x on, to the left or to the right: i of them are taken
-module _ (left : Bool) (words : List ℕ) (shape : Shape) (center : PointU) (angle : Angle) (n x : ℕ) where
+module _ (left : Bool) (image : BitMatrix) (center : PointU) (angle : Angle) (n x : ℕ) where
+  abbrev back_test : ℕ → Reads Bool
+  back_test = white_back image.shape center angle x
+
   abbrev on_test : ℕ → Reads Bool
-  on_test y = white_point shape (walk_point center angle y)
+  on_test y = white_point image.shape (walk_point center angle y)
 
-  pub record Going (marks₀ marks : List ℕ) (i : ℕ) : Type 0 where
+  pub record Going (now : BitMatrix) (i : ℕ) : Type 0 where
     pub few : i ≤ n
-    pub sized : length marks ≡ length words
-    pub back : left ≡ true → Stepping words (white_back shape center angle x) n 0 marks₀ marks i
-    pub on : left ≡ false → Stepping words on_test n x marks₀ marks i
+    pub kept : Kept image now
+    pub back : left ≡ true → Stepping image.words.now back_test n 0 image.marks.now now.marks.now i
+    pub on : left ≡ false → Stepping image.words.now on_test n x image.marks.now now.marks.now i
 
-  pub going_start : {marks : List ℕ} → length marks ≡ length words → Going marks marks 0
-  going_start same = record {
-    few = omega arith;
-    sized = same;
-    back = λ _. steps_begin words (white_back shape center angle x) n 0 same;
-    on = λ _. steps_begin words on_test n x same;
-  }
-
-  module _ {marks₀ marks : List ℕ} {i : ℕ} (going : Going marks₀ marks i) where
-    module _ {white : Bool} {after : List ℕ} (more : i < n) (ran : Ran (white_point shape (walk_point center angle (column left x i))) words marks white after)
+  module _ {now : BitMatrix} {i : ℕ} (going : Going now i) where
+    module _ {white : Bool} {after : BitMatrix} (more : i < n) (run : RanOn (white_point now.shape (walk_point center angle (column left x i))) now white after)
       where
-        ran_back : left ≡ true → Ran (white_back shape center angle x i) words marks white after
+        ran : Ran (on_test (column left x i)) image.words.now now.marks.now white after.marks.now
+        ran = onto (λ (shape : Shape). white_point shape (walk_point center angle (column left x i))) going.kept run
+
+        ran_back : left ≡ true → Ran (back_test i) image.words.now now.marks.now white after.marks.now
         ran_back e = rw e at ran
 
-        ran_on : left ≡ false → Ran (on_test (x + i)) words marks white after
+        ran_on : left ≡ false → Ran (on_test (x + i)) image.words.now now.marks.now white after.marks.now
         ran_on e = rw e at ran
 
-        pub going_on : white ≡ true → length after ≡ length marks → Going marks₀ after (i + 1)
-        going_on e kept = record {
+        pub going_on : white ≡ true → Going after (i + 1)
+        going_on e = record {
           few = omega arith;
-          sized = kept ∙ going.sized;
-          back = λ f. count_on words (white_back shape center angle x) n (going.back f) more (ran_back f) e kept;
-          on = λ f. steps_on words on_test n x (going.on f) more (ran_on f) e kept;
+          kept = kept_on going.kept run.kept;
+          back = λ f. count_on image.words.now back_test n (going.back f) more (ran_back f) e;
+          on = λ f. steps_on image.words.now on_test n x (going.on f) more (ran_on f) e;
         }
 
-        pub going_stop : white ≡ false → Taken left shape center angle n x words marks₀ i after
+        pub going_stop : white ≡ false → Taken left image.shape center angle n x image.words.now image.marks.now i after.marks.now
         going_stop e = record {
-          back = λ f. count_stop words (white_back shape center angle x) n (going.back f) more (ran_back f) e;
+          back = λ f. count_stop image.words.now back_test n (going.back f) more (ran_back f) e;
           on = λ f.
-              subst (λ (p : Reads ℕ). Ran p words marks₀ (x + i) after) (right_steps shape center angle n x)
-              (steps_stop words on_test n x (going.on f) more (ran_on f) e);
+              subst (λ (p : Reads ℕ). Ran p image.words.now image.marks.now (x + i) after.marks.now) (right_steps image.shape center angle n x)
+              (steps_stop image.words.now on_test n x (going.on f) more (ran_on f) e);
         }
 
-    pub going_over : n ≤ i → Taken left shape center angle n x words marks₀ n marks
+    pub going_over : n ≤ i → Taken left image.shape center angle n x image.words.now image.marks.now n now.marks.now
     going_over h = record {
-      back = λ f. count_over words (white_back shape center angle x) n (going.back f) h;
+      back = λ f. count_over image.words.now back_test n (going.back f) h;
       on = λ f.
-          subst (λ (p : Reads ℕ). Ran p words marks₀ (x + n) marks) (right_steps shape center angle n x)
-          (steps_over words on_test n x (going.on f) h);
+          subst (λ (p : Reads ℕ). Ran p image.words.now image.marks.now (x + n) now.marks.now) (right_steps image.shape center angle n x)
+          (steps_over image.words.now on_test n x (going.on f) h);
     }
 
 -- ---- steps joined to the walks
@@ -208,15 +207,15 @@ module _ (words : List ℕ) (shape : Shape) (center : PointU) (angle : Angle) wh
   abbrev limit : ℕ
   limit = center.x + steps_right shape angle
 
-  module _ (limits : Limits shape) (inside : Inside shape center.x center.y) (of : OfDegree angle) where
+  module _ (limits : Limits shape) (inside : Inside shape center.x center.y) (of : ∥ OfDegree angle ∥₁) where
     pub kept_near : (n x : ℕ) {y : ℕ} {marks after : List ℕ} → x ≤ limit → Ran (from n x) words marks y after → y ≤ limit
-    kept_near n x h ran = rw ran.result (within limit (walk_stops limits center inside of words) n x h)
+    kept_near n x h ran = rw ran.result (within limit (walk_stops_of of limits center inside words) n x h)
 
     module _ {before marks after : List ℕ} {whole : Reads ℕ} (n x : ℕ) {y : ℕ} (h : x ≤ limit) (few : n ≤ 2 ^ 10)
         (resumes : Resumes words (from (steps_remaining center x) x) marks whole before) (ran : Ran (from n x) words marks y after) where
       joined : Joined n (steps_remaining center x - n) x y after whole before
       joined =
-          let all : steps_remaining center x ≡ n + (steps_remaining center x - n) = omega (arith, steps_few of limits) in
+          let all : steps_remaining center x ≡ n + (steps_remaining center x - n) = omega (arith, steps_few_of of limits) in
           join (steps_remaining center x - n) ran n x marks resumes_start (rw all at resumes)
 
       pub stopped : y < x + n → Ran whole words before y after

@@ -18,7 +18,7 @@ use Rattle.rxing_result_point.specs.PointsLaws.{real_value}
 use Rattle.rxing_result_point.specs.Points.{past, real, turned}
 use Rattle.detector_walks.specs.Walks.{walk_point, white_pixel, white_point}
 use Rattle.detector_walks.specs.WalksClauses.{OfDegree, cell_at}
-use Rattle.detector_walks.specs.StepsLaws.{rules}
+use Rattle.detector_walks.proofs.Degrees.{rules_of}
 use Rattle.detector_walks.specs.FarLaws.{mul_zero_value}
 use Rattle.detector_walks.specs.WalksLaws.{past_value}
 use Rattle.detector_walks.proofs.Level.{size_without, size_across, size_below}
@@ -34,24 +34,15 @@ module _ {shape : Shape} {x y : ℕ} (limits : Limits shape) (inside : Inside sh
   pub high : y < 2 ^ 11
   high = omega (arith, limits.height_most, inside.row)
 
-  pub exact_column : T (in_float binary32 (pos x))
-  exact_column = exact x (omega (arith, left))
-
-  pub exact_row : T (in_float binary32 (pos y))
-  exact_row = exact y (omega (arith, high))
-
-module _ {angle : Angle} (of : OfDegree angle) where
+module _ {angle : Angle} (of : ∥ OfDegree angle ∥₁) where
   pub sine_size : Between 0 1 (abs angle.sin)
-  sine_size = size_unit angle.sin _ _ (2 ^ 29) (rules of).sine (pow_pos 29) (rules of).sine_unit
+  sine_size = size_unit angle.sin _ _ (2 ^ 29) (rules_of of).sine (pow_pos 29) (rules_of of).sine_unit
 
   pub cosine_size : Between 0 1 (abs angle.cos)
-  cosine_size = size_unit angle.cos _ _ (2 ^ 29) (rules of).cosine (pow_pos 29) (rules of).cosine_unit
+  cosine_size = size_unit angle.cos _ _ (2 ^ 29) (rules_of of).cosine (pow_pos 29) (rules_of of).cosine_unit
 
-module _ {shape : Shape} {center : PointU} {angle : Angle} {x : ℕ} (limits : Limits shape) (inside : Inside shape center.x center.y) (of : OfDegree angle)
+module _ {shape : Shape} {center : PointU} {angle : Angle} {x : ℕ} (limits : Limits shape) (inside : Inside shape center.x center.y) (of : ∥ OfDegree angle ∥₁)
     (low : x ≤ 2 ^ 21) where
-  pub exact_step : T (in_float binary32 (pos x))
-  exact_step = exact x (omega (arith, low))
-
   abbrev u : Float
   u = past center.x x
 
@@ -71,8 +62,8 @@ module _ {shape : Shape} {center : PointU} {angle : Angle} {x : ℕ} (limits : L
       let t = negative (scaled angle.cos) in
       let flat = mul binary32 angle.sin v in
       let level = past_value center.y center.y 0 (omega arith) (omega (arith, high limits inside)) in
-      let sine = mul_zero_value s angle.sin v _ (2 ^ 29) (rules of).sine (pow_pos 29) level in
-      let cosine = mul_zero_value t angle.cos v _ (2 ^ 29) (rules of).cosine (pow_pos 29) level in
+      let sine = mul_zero_value s angle.sin v _ (2 ^ 29) (rules_of of).sine (pow_pos 29) level in
+      let cosine = mul_zero_value t angle.cos v _ (2 ^ 29) (rules_of of).cosine (pow_pos 29) level in
       let same_column = size_without (mul binary32 angle.cos u) (neg flat) (real center.x) (not s) false center.x
       (mul-fits binary32 angle.cos u) (size_across angle.cos center.x x center.x (cosine_size of) (left limits inside) low (left limits inside))
       (neg_value s flat 0 1 sine)

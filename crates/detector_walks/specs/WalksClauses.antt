@@ -11,7 +11,7 @@ use Rattle.sines.specs.declared.Angle.{Angle}
 use Rattle.sines.specs.Sines.{angle_of}
 use Rattle.rxing_result_point.specs.declared.PointU.{PointU}
 use Rattle.rxing_result_point.specs.Points.{real, past}
-use Rattle.detector_walks.specs.Walks.{walk_point, white_point, right_from}
+use Rattle.detector_walks.specs.Walks.{walk_point, white_point, left_from, right_from}
 
 -- what a step about a centre is lent: an image, and a centre inside it
 pub record Lent (shape : Shape) (words marks : List ℕ) (center : PointU) : Type 0 where
@@ -54,3 +54,7 @@ pub record Taken (left : Bool) (shape : Shape) (center : PointU) (angle : Angle)
 -- the steps that the walk to the right may still take from column x on
 abbrev pub steps_remaining : PointU → ℕ → ℕ
 steps_remaining center x = center.x + 1 + 2 ^ 20 - x
+
+-- the walk from column x on, to the left or to the right
+abbrev pub rest : Bool → Shape → PointU → Angle → ℕ → Reads ℕ
+rest left shape center angle x = cond left (left_from shape center angle x) (right_from shape center angle (steps_remaining center x) x)

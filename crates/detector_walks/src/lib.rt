@@ -3,15 +3,15 @@
 #![tactic(auto)]
 
 ghost use Rattle.std.specs.Prelude.{true, false, ◌≡◌, ◌+◌, ◌^◌, ◌≤◌, ◌<◌};
-ghost use Rattle.reads.specs.RunsClauses.{Ran};
-ghost use Rattle.bit_matrix.specs.ShapeClauses.{Image, Inside};
+ghost use Rattle.bit_matrix.specs.ShapeClauses.{Inside};
+ghost use Rattle.bit_matrix.specs.ImageClauses.{Kept, RanOn};
 ghost use Rattle.ieee.specs.Sign.{abs};
 ghost use Rattle.ieee.specs.BetweenLaws.{Between};
-ghost use Rattle.detector_walks.specs.Walks.{walk_point, white_pixel, white_point, left_from, right_from, walk, width_of, find_width_at_degree};
-ghost use Rattle.detector_walks.specs.WalksClauses.{OfDegree, Along, column, Taken, steps_remaining, Lent};
+ghost use Rattle.detector_walks.specs.Walks.{walk_point, white_pixel, white_point, left_from, width_of, find_width_at_degree};
+ghost use Rattle.detector_walks.specs.WalksClauses.{OfDegree, Along, column, Taken, rest};
 ghost use Rattle.detector_walks.specs.StepsLaws.{steps_right};
 
-use bit_matrix::Shape;
+use bit_matrix::BitMatrix;
 use rxing_result_point::{Point, PointU};
 use sines::{Angle, Sines};
 
@@ -23,64 +23,71 @@ pub struct Width {
     pub right: Point,
 }
 
+// The line on which a walk goes: from a centre, at an angle.
+#[derive(Clone, Copy)]
+struct Ray {
+    center: PointU,
+    angle: Angle,
+    ghost of_degree: { ∥ OfDegree angle ∥₁ },
+}
+
+impl Ray {
+    // The point that a walk is at in column x.
+    fn walk_point(self, x: u32) -> Point
+        ensures { result ≡ walk_point self.center self.angle x }
+    {
+        let y = self.center.y;
+        rxing_result_point::turn(self.center, PointU { x, y }, self.angle)
+    }
+
+    // The width between the columns where the walks end.
+    fn width_of(self, left: u32, right: u32) -> Width
+        requires { (left ≤ self.center.x) × (self.center.x < right) }
+        ensures { result ≡ width_of self.center self.angle left right }
+    {
+        Width {
+            length: self.center.x - left + (right - (self.center.x + 1)),
+            left: self.walk_point(left),
+            right: self.walk_point(right),
+        }
+    }
+}
+
 // Whether a pixel lies in a word of the image and is white.
-fn is_white(words: &[u64], marks: &mut [u64], shape: Shape, x: u32, y: u32) -> bool
-    requires { Image shape words.now marks.old }
-    ensures { Ran (white_pixel shape x y) words.now marks.old result marks.new }
+fn is_white(image: &mut BitMatrix, x: u32, y: u32) -> bool
+    ensures { RanOn (white_pixel image.old.shape x y) image.old result image.new }
 {
-    if bit_matrix::check_in_bounds(words, shape, x, y) {
+    if image.unmarked().check_in_bounds(x, y) {
         return false;
     }
-    !bit_matrix::get(words, marks, shape, x, y)
+    !image.get(x, y)
 }
 
 // Whether the walk goes on from column x. The operations are those of `get_point`, in its order, without the products with the distance from the
 // centre's row, which is zero; written out, so that what the centre alone decides can be taken out of the loop. Up to column 2 ^ 21 a coordinate
 // is small enough for the cast without tests.
-fn goes_on(
-    words: &[u64],
-    marks: &mut [u64],
-    shape: Shape,
-    center: PointU,
-    angle: Angle,
-    x: u32,
-) -> bool
-    requires { Image shape words.now marks.old × Inside shape center.x center.y × (x ≤ 2 ^ 21) × OfDegree angle }
-    ensures { Ran (white_point shape (walk_point center angle x)) words.now marks.old result marks.new }
+fn goes_on(image: &mut BitMatrix, ray: Ray, x: u32) -> bool
+    requires { Inside image.old.shape ray.center.x ray.center.y × (x ≤ 2 ^ 21) }
+    ensures { RanOn (white_point image.old.shape (walk_point ray.center ray.angle x)) image.old result image.new }
 {
-    let sin = angle.sin;
-    let cos = angle.cos;
-    let cx = center.x as f32;
-    let cy = center.y as f32;
+    let sin = ray.angle.sin;
+    let cos = ray.angle.cos;
+    let cx = ray.center.x as f32;
+    let cy = ray.center.y as f32;
     let u = x as f32 - cx;
     let column = ieee::abs_below_f32_to_u32(cos * u + cx);
     let row = ieee::abs_below_f32_to_u32(sin * u + cy);
-    is_white(words, marks, shape, column, row)
+    is_white(image, column, row)
 }
 
-// The point that a walk is at in column x.
-fn walk_point(center: PointU, angle: Angle, x: u32) -> Point
-    ensures { result ≡ walk_point center angle x }
-{
-    let y = center.y;
-    rxing_result_point::turn(center, PointU { x, y }, angle)
-}
-
-// The column where the walk to the left from column `first` ends. Column 0 is looked at too, before the test that ends the walk there. A while: the end
+// The column where the walk to the left from column `first` on ends. Column 0 is looked at too, before the test that ends the walk there. A while: the end
 // is not a count.
-fn back(
-    words: &[u64],
-    marks: &mut [u64],
-    shape: Shape,
-    center: PointU,
-    angle: Angle,
-    first: u32,
-) -> u32
-    requires { Image shape words.now marks.old × Inside shape center.x center.y × (first < 2 ^ 11) × OfDegree angle }
-    ensures { Ran (left_from shape center angle first) words.now marks.old result marks.new }
+fn back(image: &mut BitMatrix, ray: Ray, first: u32) -> u32
+    requires { Inside image.old.shape ray.center.x ray.center.y × (first ≤ 2 ^ 21) }
+    ensures { RanOn (left_from image.old.shape ray.center ray.angle first) image.old result image.new }
 {
     let mut x = first;
-    while goes_on(words, marks, shape, center, angle, x) {
+    while goes_on(image, ray, x) {
         if x == 0 {
             return x;
         }
@@ -98,20 +105,14 @@ fn column<const LEFT: bool>(x: u32, i: u32) -> u32
 }
 
 // How many of 16 steps from column x the walk takes, one by one.
-fn step<const LEFT: bool>(
-    words: &[u64],
-    marks: &mut [u64],
-    shape: Shape,
-    center: PointU,
-    angle: Angle,
-    x: u32,
-) -> u32
-    requires { Image shape words.now marks.old × Inside shape center.x center.y × OfDegree angle × (LEFT ≡ true → 16 ≤ x) × (x ≤ 2 ^ 12) }
-    ensures { Taken LEFT shape center angle 16 x words.now marks.old result marks.new }
+fn step<const LEFT: bool>(image: &mut BitMatrix, ray: Ray, x: u32) -> u32
+    requires { Inside image.old.shape ray.center.x ray.center.y × (LEFT ≡ true → 16 ≤ x) × (x < 2 ^ 20 + 2 ^ 12) }
+    ensures kept { Kept image.old image.new }
+    ensures taken { Taken LEFT image.old.shape ray.center ray.angle 16 x image.old.words.now image.old.marks.now result image.new.marks.now }
 {
     for i in 0..16 {
         let at = column::<LEFT>(x, i);
-        if !goes_on(words, marks, shape, center, angle, at) {
+        if !goes_on(image, ray, at) {
             return i;
         }
     }
@@ -137,127 +138,71 @@ fn along<const LEFT: bool>(factor: f32, center_x: u32, place: u32, x: u32) -> [u
 }
 
 // How many of 32 steps from column x the walk takes.
-fn stride<const LEFT: bool>(
-    words: &[u64],
-    marks: &mut [u64],
-    shape: Shape,
-    center: PointU,
-    angle: Angle,
-    x: u32,
-) -> u32
-    requires { Image shape words.now marks.old × Inside shape center.x center.y × OfDegree angle × (LEFT ≡ true → 32 ≤ x) × (x < 2 ^ 20 + 2 ^ 12) }
-    ensures { Taken LEFT shape center angle 32 x words.now marks.old result marks.new }
+fn stride<const LEFT: bool>(image: &mut BitMatrix, ray: Ray, x: u32) -> u32
+    requires { Inside image.old.shape ray.center.x ray.center.y × (LEFT ≡ true → 32 ≤ x) × (x < 2 ^ 20 + 2 ^ 12) }
+    ensures kept { Kept image.old image.new }
+    ensures taken { Taken LEFT image.old.shape ray.center ray.angle 32 x image.old.words.now image.old.marks.now result image.new.marks.now }
 {
-    let columns = along::<LEFT>(angle.cos, center.x, center.x, x);
-    let rows = along::<LEFT>(angle.sin, center.x, center.y, x);
+    let columns = along::<LEFT>(ray.angle.cos, ray.center.x, ray.center.x, x);
+    let rows = along::<LEFT>(ray.angle.sin, ray.center.x, ray.center.y, x);
     for i in 0..32 {
-        if !is_white(words, marks, shape, columns[i], rows[i]) {
+        if !is_white(image, columns[i], rows[i]) {
             return i as u32;
         }
     }
     32
 }
 
-// The column where the walk to the left ends, by strides from a column on, and one by one where there is no room for a stride.
-fn strides_back(
-    words: &[u64],
-    marks: &mut [u64],
-    shape: Shape,
-    center: PointU,
-    angle: Angle,
-    first: u32,
-) -> u32
-    requires { Image shape words.now marks.old × Inside shape center.x center.y × (first < 2 ^ 11) × OfDegree angle }
-    ensures { Ran (left_from shape center angle first) words.now marks.old result marks.new }
-{
-    let mut x = first;
-    while x >= 32 {
-        let taken = stride::<true>(words, marks, shape, center, angle, x);
-        x -= taken;
-        if taken < 32 {
-            return x;
-        }
-    }
-    back(words, marks, shape, center, angle, x)
-}
-
-// The column where the walk to the left ends: a few steps one by one, then strides; left of column 16 one by one alone.
-fn walk_left(words: &[u64], marks: &mut [u64], shape: Shape, center: PointU, angle: Angle) -> u32
-    requires { Image shape words.now marks.old × Inside shape center.x center.y × OfDegree angle }
-    ensures { Ran (walk shape center angle true) words.now marks.old result marks.new }
-{
-    let x = center.x;
-    if x < 16 {
-        return back(words, marks, shape, center, angle, x);
-    }
-    let taken = step::<true>(words, marks, shape, center, angle, x);
-    if taken < 16 {
-        return x - taken;
-    }
-    strides_back(words, marks, shape, center, angle, x - taken)
-}
-
-// The column where the walk to the right ends, by strides from a column on. The sine tells where it has ended at the latest.
-fn strides(
-    words: &[u64],
-    marks: &mut [u64],
-    shape: Shape,
-    center: PointU,
-    angle: Angle,
-    first: u32,
-) -> u32
-    requires { Image shape words.now marks.old × Inside shape center.x center.y × OfDegree angle × (first ≤ center.x + steps_right shape angle) }
-    ensures { Ran (right_from shape center angle (steps_remaining center first) first) words.now marks.old result marks.new }
+// The column where a walk from column `first` on ends, by strides; to the left one by one where there is no room for a stride. To the right the sine
+// tells where it has ended at the latest.
+fn strides<const LEFT: bool>(image: &mut BitMatrix, ray: Ray, first: u32) -> u32
+    requires { Inside image.old.shape ray.center.x ray.center.y × (first ≤ ray.center.x + steps_right image.old.shape ray.angle) }
+    ensures { RanOn (rest LEFT image.old.shape ray.center ray.angle first) image.old result image.new }
 {
     let mut x = first;
     loop {
-        let taken = stride::<false>(words, marks, shape, center, angle, x);
-        x += taken;
+        if LEFT && x < 32 {
+            return back(image, ray, x);
+        }
+        let taken = stride::<LEFT>(image, ray, x);
+        x = column::<LEFT>(x, taken);
         if taken < 32 {
             return x;
         }
     }
 }
 
-// The column where the walk to the right ends: a few steps one by one, then strides.
-fn walk_right(words: &[u64], marks: &mut [u64], shape: Shape, center: PointU, angle: Angle) -> u32
-    requires { Image shape words.now marks.old × Inside shape center.x center.y × OfDegree angle }
-    ensures { Ran (walk shape center angle false) words.now marks.old result marks.new }
+// The column where a walk from column `first` on ends: a few steps one by one, then strides; to the left from below column 16 one by one alone.
+fn walk<const LEFT: bool>(image: &mut BitMatrix, ray: Ray, first: u32) -> u32
+    requires { Inside image.old.shape ray.center.x ray.center.y × (first ≤ ray.center.x + steps_right image.old.shape ray.angle) }
+    ensures { RanOn (rest LEFT image.old.shape ray.center ray.angle first) image.old result image.new }
 {
-    let first = center.x + 1;
-    let taken = step::<false>(words, marks, shape, center, angle, first);
+    if LEFT && first < 16 {
+        return back(image, ray, first);
+    }
+    let taken = step::<LEFT>(image, ray, first);
+    let x = column::<LEFT>(first, taken);
     if taken < 16 {
-        return first + taken;
+        return x;
     }
-    strides(words, marks, shape, center, angle, first + taken)
-}
-
-// The width between the columns where the walks end.
-fn width_of(center: PointU, angle: Angle, left: u32, right: u32) -> Width
-    requires { (left ≤ center.x) × (center.x < right) }
-    ensures { result ≡ width_of center angle left right }
-{
-    Width {
-        length: center.x - left + (right - (center.x + 1)),
-        left: walk_point(center, angle, left),
-        right: walk_point(center, angle, right),
-    }
+    strides::<LEFT>(image, ray, x)
 }
 
 // Both walks. They end at every degree.
 pub fn find_width_at_degree(
-    words: &[u64],
-    marks: &mut [u64],
-    shape: Shape,
+    image: &mut BitMatrix,
     center: PointU,
     sines: &Sines,
     degree: u32,
 ) -> Width
-    requires { Lent shape words.now marks.old center }
-    ensures { Ran (find_width_at_degree shape center degree) words.now marks.old result marks.new }
+    requires { Inside image.old.shape center.x center.y }
+    ensures { RanOn (find_width_at_degree image.old.shape center degree) image.old result image.new }
 {
-    let angle = sines.angle(degree);
-    let left = walk_left(words, marks, shape, center, angle);
-    let right = walk_right(words, marks, shape, center, angle);
-    width_of(center, angle, left, right)
+    let ray = Ray {
+        center,
+        angle: sines.angle(degree),
+    };
+    let left = walk::<true>(image, ray, center.x);
+    let right = walk::<false>(image, ray, center.x + 1);
+    ray.width_of(left, right)
 }

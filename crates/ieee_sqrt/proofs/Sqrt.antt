@@ -3,7 +3,7 @@
 use Rattle.std.proofs.Common.{◌≡◌, ℕ, zero, suc, ◌+◌, ◌-◌, ◌*◌, ◌/◌, ◌%◌, ◌^◌, ◌≤◌, ◌<◌, true, false, T, refl, sym, ap, ◌∙◌, subst, mul-le-mul_right, mul-div_cancel, div-lt_iff_lt-mul, le-div_iff_mul-le, arith, eqb→eq, lt→ltb, pow_pos, pow-add, Float}
 use Rattle.std.proofs.Math.Nat.{pow-succ'}
 use lib.Ieee as Ieee
-use Rattle.std.specs.Float.Ieee.{prec, low, up, down, size, units, round, root_below, root_twice, fits}
+use Rattle.std.specs.Float.Ieee.{prec, low, up, down, size, round, root_below, root_twice, fits}
 use Rattle.std.specs.Float.{nan, inf, fin, Format, binary32, binary64}
 use lib.Ieee.Digits.{size-lt}
 use lib.Ieee.Fits.{two, down_pos}

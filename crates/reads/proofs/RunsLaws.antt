@@ -24,14 +24,6 @@ unfolding value_of marks_of
 marks_of_bind p k words marks =
     ap (mark_all marks) (trace_bind p k (bit_at words)) ∙ mark_all_append marks (trace p (bit_at words)) (trace (k (value p (bit_at words))) (bit_at words))
 
-length_marks_of : {A : Type 0} (p : Reads A) (words marks : List ℕ) → length (marks_of p words marks) ≡ length marks
-unfolding marks_of
-length_marks_of p words marks = length_mark_all marks (trace p (bit_at words))
-
--- a run keeps the number of the marks
-pub ran_length : {A : Type 0} {p : Reads A} {words m₀ m₁ : List ℕ} {a : A} → Ran p words m₀ a m₁ → length m₁ ≡ length m₀
-ran_length {p} {words} {m₀} ran = ap length ran.marked ∙ length_marks_of p words m₀
-
 -- the read of one bit
 pub ran_read : {words marks : List ℕ} (i : ℕ) → Ran (read i done) words marks (bit_at words i) (mark marks i)
 unfolding value_of marks_of value trace mark_all

@@ -1,5 +1,5 @@
 // The lent buffers: the pattern that fills them, and what they hold afterwards.
-ghost use Rattle.std.specs.Prelude.{ℕ, ◌+◌, ◌*◌, ◌<◌, ◌≤◌, length};
+ghost use Rattle.std.specs.Prelude.{ℕ, ◌<◌, ◌≤◌, length};
 
 use crate::pack::{byte, u32_at, u64_at};
 
@@ -94,13 +94,11 @@ pub fn same_words(words: &[u64], file: &[u8], accepted: bool) -> bool
     })
 }
 
-// The first `kept` words are those from byte `from` of the pack on; those up to `cleared` are zero; the rest has the pattern.
-pub fn same_records(records: &[u32], pack: &[u8], from: usize, kept: usize, cleared: usize) -> bool
-    requires { from + 4 * kept ≤ length pack.now }
-{
+// The first words are those of the bytes `kept`; those up to `cleared` are zero; the rest has the pattern.
+pub fn same_records(records: &[u32], kept: &[u8], cleared: usize) -> bool {
     same(records, |i, p| {
-        if i < kept {
-            u32_at(pack, from + 4 * i)
+        if i < kept.len() / 4 {
+            u32_at(kept, 4 * i)
         } else if i < cleared {
             0
         } else {
@@ -109,14 +107,12 @@ pub fn same_records(records: &[u32], pack: &[u8], from: usize, kept: usize, clea
     })
 }
 
-// The first `count` words are those from byte `from` of the pack on, the rest has the pattern.
-pub fn same_marks(marks: &[u64], pack: &[u8], from: usize, count: usize) -> bool
-    requires { from + 8 * count ≤ length pack.now }
-{
+// The first words are those of the bytes `marked`, the rest has the pattern.
+pub fn same_marks(marks: &[u64], marked: &[u8]) -> bool {
     same(
         marks,
-        |i, p| if i < count {
-            u64_at(pack, from + 8 * i)
+        |i, p| if i < marked.len() / 8 {
+            u64_at(marked, 8 * i)
         } else {
             !p
         },

@@ -6,45 +6,38 @@
 mod lent;
 mod pack;
 
-ghost use Rattle.std.specs.Prelude.{◌≡◌, ◌+◌, ◌≤◌, length};
+ghost use Rattle.std.specs.Prelude.{◌≡◌, ◌≤◌, length};
 ghost use Rattle.replay.specs.Pack.{size_of};
 
 use crate::lent::{fill_marks, fill_records, fill_words, same_marks, same_records, same_words};
-use crate::pack::{
-    Vector, cleared_words, is_accepted, kept_words, mark_words, marks_at, records_at, size_of,
-    vector_at,
-};
+use crate::pack::Vector;
 use detector::Report;
 use std::io;
 
-// How many vectors there were, how many of them wrong, and whether they fill the pack.
-#[derive(Clone, Copy)]
-struct Counts {
-    vectors: u64,
-    wrong: u64,
-    whole: bool,
-}
-
-// Whether a report and the buffers after a search are as the vector at `at` says.
+// Whether a report and the buffers after a search are as the vector of these bytes says.
 fn agrees(
-    pack: &[u8],
-    at: usize,
+    bytes: &[u8],
     vector: Vector,
     report: Report,
     words: &[u64],
     records: &[u32],
     marks: &[u64],
 ) -> bool
-    requires { (at + size_of vector ≤ length pack.now) × (length words.now ≤ 8000) }
+    requires { (size_of vector ≤ length bytes.now) × (length words.now ≤ 8000) }
 {
-    let start = at + 64;
-    let end = start + vector.file as usize;
-    let from = at + records_at(vector);
-    let (kept, cleared) = (kept_words(vector), cleared_words(vector));
+    let (records_at, marks_at) = (vector.records_at(), vector.marks_at());
     report == vector.report
-        && same_words(words, &pack[start..end], is_accepted(vector))
-        && same_records(records, pack, from, kept, cleared)
-        && same_marks(marks, pack, at + marks_at(vector), mark_words(vector))
+        && same_words(
+            words,
+            &bytes[64..64 + vector.file as usize],
+            vector.is_accepted(),
+        )
+        && same_records(
+            records,
+            &bytes[records_at..marks_at],
+            vector.cleared_words(),
+        )
+        && same_marks(marks, &bytes[marks_at..vector.size_of()])
 }
 
 // The search of a file in buffers that hold the pattern.
@@ -53,34 +46,32 @@ fn searched(
     words: &mut [u64],
     records: &mut [u32],
     marks: &mut [u64],
-    ellipse: u32,
+    ellipse: bool,
 ) -> Report {
     fill_words(words);
     fill_records(records);
     fill_marks(marks);
-    detector::search_file(file, words, records, marks, ellipse != 0)
+    detector::search_file(file, words, records, marks, ellipse)
 }
 
-// Whether a search in these buffers does what the vector at `at` says.
+// Whether a search in these buffers does what the vector of these bytes says.
 fn is_right_in(
-    pack: &[u8],
-    at: usize,
+    bytes: &[u8],
     vector: Vector,
     words: &mut [u64],
     records: &mut [u32],
     marks: &mut [u64],
 ) -> bool
-    requires { (at + size_of vector ≤ length pack.now) × (length words.old ≤ 8000) }
+    requires { (size_of vector ≤ length bytes.now) × (length words.old ≤ 8000) }
 {
-    let start = at + 64;
-    let end = start + vector.file as usize;
-    let report = searched(&pack[start..end], words, records, marks, vector.ellipse);
-    agrees(pack, at, vector, report, words, records, marks)
+    let file = &bytes[64..64 + vector.file as usize];
+    let report = searched(file, words, records, marks, vector.ellipse);
+    agrees(bytes, vector, report, words, records, marks)
 }
 
 // The same in buffers of the lengths that the vector says. Longer ones than these no vector has.
-fn is_right(pack: &[u8], at: usize, vector: Vector) -> bool
-    requires { at + size_of vector ≤ length pack.now }
+fn is_right(bytes: &[u8], vector: Vector) -> bool
+    requires { size_of vector ≤ length bytes.now }
 {
     let words_len = vector.words as usize;
     let records_len = vector.records as usize;
@@ -92,8 +83,7 @@ fn is_right(pack: &[u8], at: usize, vector: Vector) -> bool
     let mut records = [0u32; 80000];
     let mut marks = [0u64; 8000];
     is_right_in(
-        pack,
-        at,
+        bytes,
         vector,
         &mut words[..words_len],
         &mut records[..records_len],
@@ -101,44 +91,44 @@ fn is_right(pack: &[u8], at: usize, vector: Vector) -> bool
     )
 }
 
-// Writes the name of the vector at `at`: 28 bytes, padded with zeros.
-fn print_wrong(rt: &impl Print, pack: &[u8], at: usize) -> io::Result<()>
-    requires { at + 28 ≤ length pack.now }
+// Writes the name that begins these bytes of a vector: 28 of them, padded with zeros.
+fn print_wrong(rt: &impl Print, bytes: &[u8]) -> io::Result<()>
+    requires { 28 ≤ length bytes.now }
 {
-    let name = &pack[at..at + 28];
-    let end = name.iter().position(|byte| *byte == 0).unwrap_or(28);
+    let end = bytes
+        .iter()
+        .position(|byte| *byte == 0)
+        .unwrap_or(28)
+        .min(28);
     rt.write_all(b"wrong: ")?;
-    rt.write_all(&name[..end])?;
+    rt.write_all(&bytes[..end])?;
     rt.write_all(b"\n")
 }
 
-fn replay(rt: &impl Print, pack: &[u8]) -> io::Result<Counts> {
+// Replays the vectors of a pack one after another. A pack that ends within a vector is cut off, and so may be one as long as `space`.
+fn replay(rt: &impl Print, pack: &[u8]) -> io::Result<()> {
     let mut vectors = 0u64;
     let mut wrong = 0u64;
-    let mut at = 0usize;
+    let mut rest = pack;
     // A while: each vector has a size of its own.
-    while 64 <= pack.len() - at {
-        let vector = vector_at(pack, at);
-        let size = size_of(vector);
-        if pack.len() - at < size {
-            return Ok(Counts {
-                vectors,
-                wrong,
-                whole: false,
-            });
+    while 64 <= rest.len() {
+        let vector = Vector::read(rest);
+        let size = vector.size_of();
+        if rest.len() < size {
+            break;
         }
-        if !is_right(pack, at, vector) {
-            print_wrong(rt, pack, at)?;
+        let (bytes, later) = rest.split_at(size);
+        if !is_right(bytes, vector) {
+            print_wrong(rt, bytes)?;
             wrong += 1;
         }
-        at += size;
+        rest = later;
         vectors += 1;
     }
-    Ok(Counts {
-        vectors,
-        wrong,
-        whole: at == pack.len(),
-    })
+    if !rest.is_empty() || pack.len() == 2097152 {
+        println!(rt; "the pack is cut off")?;
+    }
+    println!(rt; "{vectors} vectors, {wrong} wrong")
 }
 
 // Room for a pack.
@@ -151,10 +141,5 @@ fn space() -> [u8; 2097152]
 fn main(rt: HostRuntime) -> io::Result<()> {
     let mut pack = space();
     let n = input::read_full(&mut rt.stdin(), &mut pack)?;
-    let counts = replay(&rt, &pack[..n])?;
-    if !counts.whole || n == 2097152 {
-        println!(rt; "the pack is cut off")?;
-    }
-    let (vectors, wrong) = (counts.vectors, counts.wrong);
-    println!(rt; "{vectors} vectors, {wrong} wrong")
+    replay(&rt, &pack[..n])
 }

@@ -1,4 +1,4 @@
--- A point turned about a centre and a point's pixel, each operation rounded once. Definitions only. Assumes nothing.
+-- A pixel as a point, a point turned about a centre, and a point's pixel, each operation rounded once. Definitions only. Assumes nothing.
 use Rattle.std.specs.Prelude.{ℕ, pos, Float}
 use Rattle.std.specs.Float.{binary32}
 use Rattle.std.specs.Float.Ieee.{add, sub, mul, of_int, to_unsigned}
@@ -12,6 +12,10 @@ use Rattle.rxing_result_point.specs.declared.PointU.{PointU}
 -- a whole number as an f32
 abbrev pub real : ℕ → Float
 real n = of_int binary32 (pos n)
+
+-- a pixel as a point
+abbrev pub point_at : PointU → Point
+point_at p = record { x = real p.x; y = real p.y }
 
 -- how far a coordinate lies past the centre's
 abbrev pub past : ℕ → ℕ → Float

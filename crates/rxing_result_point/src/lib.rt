@@ -3,7 +3,7 @@
 #![tactic(auto)]
 
 ghost use Rattle.std.specs.Prelude.{◌≡◌};
-ghost use Rattle.rxing_result_point.specs.Points.{turned, get_point, rounded};
+ghost use Rattle.rxing_result_point.specs.Points.{point_at, turned, get_point, rounded};
 
 use sines::{Angle, Sines};
 
@@ -21,19 +21,31 @@ pub struct PointU {
     pub y: u32,
 }
 
+// A pixel as a point.
+impl From<PointU> for Point {
+    ghost from_gives = { λ pixel point. point ≡ point_at pixel };
+
+    fn from(pixel: PointU) -> Point {
+        Point {
+            x: std::num::nearest_u32_to_f32(pixel.x),
+            y: std::num::nearest_u32_to_f32(pixel.y),
+        }
+    }
+}
+
 // `original` turned about `center` by an angle.
 pub fn turn(center: PointU, original: PointU, angle: Angle) -> Point
     ensures { result ≡ turned center original angle }
 {
+    let center = Point::from(center);
+    let original = Point::from(original);
     let sin = angle.sin;
     let cos = angle.cos;
-    let cx = std::num::nearest_u32_to_f32(center.x);
-    let cy = std::num::nearest_u32_to_f32(center.y);
-    let u = std::num::nearest_u32_to_f32(original.x) - cx;
-    let v = std::num::nearest_u32_to_f32(original.y) - cy;
+    let u = original.x - center.x;
+    let v = original.y - center.y;
     Point {
-        x: ieee::abs_f32(cos * u - sin * v + cx),
-        y: ieee::abs_f32(sin * u + cos * v + cy),
+        x: ieee::abs_f32(cos * u - sin * v + center.x),
+        y: ieee::abs_f32(sin * u + cos * v + center.y),
     }
 }
 

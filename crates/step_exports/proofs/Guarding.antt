@@ -1,5 +1,5 @@
 -- How a step keeps its promise, and the laws of its tests and results. Assumes nothing.
-use Rattle.std.proofs.Common.{ℕ, zero, suc, ◌+◌, ◌*◌, ◌≤◌, ◌<◌, arith, Bool, true, false, ◌&&◌, true≢false, ◌≡◌, refl, sym, ap, ap₂, subst, ◌∙◌, List, [], ◌∷◌, eqb-true, eq-eqb, ltb-true, lt-ltb, T, eqb, ltb, length, take, drop, get_or-drop, Float, to_bits}
+use Rattle.std.proofs.Common.{ℕ, zero, suc, ◌+◌, ◌*◌, ◌≤◌, ◌<◌, arith, Bool, true, false, true≢false, ◌≡◌, refl, sym, ap, ap₂, subst, ◌∙◌, List, [], ◌∷◌, T, length, take, drop, get_or-drop, Float, to_bits}
 use Rattle.std.specs.Float.Ieee.{of_bits}
 use Rattle.std.specs.Float.{binary32, binary64}
 use Rattle.bit_matrix.specs.declared.Shape.{Shape}
@@ -41,41 +41,9 @@ module _ {P : Type 0} where
   pub decides_false : (P → ⊥) → Decides false P
   decides_false misfit = record { sound = λ e. absurd (true≢false (sym e)); complete = λ p. absurd (misfit p) }
 
-  -- a test that fails where P fails
-  pub decides_failed : {b : Bool} → b ≡ false → (P → ⊥) → Decides b P
-  decides_failed e misfit = record { sound = λ t. absurd (true≢false (sym t ∙ e)); complete = λ p. absurd (misfit p) }
-
   -- what a test that is passed tells
   pub passed_test : {b : Bool} → Decides b P → b ≡ true → P
   passed_test d e = d.sound e
-
-  -- and one that is failed
-  pub failed_test : {b : Bool} → Decides b P → b ≡ false → P → ⊥
-  failed_test d e p = true≢false (sym (d.complete p) ∙ e)
-
-  -- an input that fails a test that it would pass if it did fit
-  pub refuse_test : {fits answered refused : Type 0} {b : Bool} → Decides b P → b ≡ false → (fits → P) → refused → Guarded fits answered refused
-  refuse_test d e part r = refuse (λ f. failed_test d e (part f)) r
-
-  -- a test that decides the rest of what is tested
-  pub decides_rest : {Q : Type 0} {b : Bool} → Decides b Q → (Q → P) → (P → Q) → Decides b P
-  decides_rest d to from = record { sound = λ e. to (d.sound e); complete = λ p. d.complete (from p) }
-
-pub decides_equal : {m n : ℕ} → Decides (eqb m n) (m ≡ n)
-decides_equal {m} {n} = record { sound = eqb-true m n; complete = eq-eqb m n }
-
-pub decides_less : {m n : ℕ} → Decides (ltb m n) (m < n)
-decides_less {m} {n} = record { sound = ltb-true m n; complete = lt-ltb m n }
-
-decides_T : (b : Bool) → Decides b (T b)
-decides_T true = decides_true tt
-decides_T false = decides_false (λ t. t)
-
-pub second_decides : {a b : Bool} → a ≡ true → Decides b (T (a && b))
-second_decides {a} {b} e = subst (λ (t : Bool). Decides b (T (t && b))) (sym e) (decides_T b)
-
-pub first_decides : {a : Bool} (b : Bool) → a ≡ false → Decides a (T (a && b))
-first_decides b e = subst (λ (t : Bool). Decides t (T (t && b))) (sym e) (decides_T false)
 
 pub scale_of : {b : Bool} {p q : Float} → p ≡ q → Decides b (T (is_scale p)) → Decides b (T (is_scale q))
 scale_of {b} e d = subst (λ (p : Float). Decides b (T (is_scale p))) e d
@@ -102,13 +70,6 @@ module _ (w h : ℕ) {shape : Shape} (is : shape ≡ shape_of w h) {b : Bool} wh
       → Lent (shape_of w h) words marks center
   lent_passed_as d = passed_test (lent_as d)
 
-pub lent_passed : {b : Bool} {shape : Shape} {words marks : List ℕ} {center : PointU} → Decides b (Lent shape words marks center)
-    → b ≡ true → Lent shape words marks center
-lent_passed = passed_test
-
-pub small_passed : {b : Bool} {n : ℕ} {words : List ℕ} → Decides b (SmallTo n words) → b ≡ true → SmallTo n words
-small_passed = passed_test
-
 pub cell_passed : {b : Bool} (cell : PointU) → Decides b (T (is_cell cell)) → b ≡ true → T (is_cell cell)
 cell_passed cell = passed_test
 
@@ -129,9 +90,8 @@ each_small (suc n) words small = (
   each_small n (drop 40 words) (record { at = λ k h. rw get_or-drop (small.at (40 + k) (omega arith)) }),
 )
 
-pub candidates : {found most : ℕ} {records : List ℕ} → most ≡ capacity_of (length records) → found ≤ most → SmallTo (40 * found) records
-    → Candidates found records
-candidates {found} {records = records} same fits small = record { few = omega arith; held = omega arith; small = each_small found records small }
+pub candidates : {found : ℕ} {records : List ℕ} → found ≤ capacity_of (length records) × SmallTo (40 * found) records → Candidates found records
+candidates {found} {records} fits = record { few = omega (arith, fits.0); held = omega (arith, fits.0); small = each_small found records fits.1 }
 
 pub kept_as : (found n : ℕ) {most kept : ℕ} {before after : List ℕ} → most ≡ capacity_of n → KeptAndRanked found most before kept after
     → KeptAndRanked found (capacity_of n) before kept after

@@ -2,17 +2,18 @@
 ghost use Rattle.std.specs.Prelude.{false, ◌≡◌};
 ghost use Rattle.reads.specs.RunsClauses.{Ran};
 ghost use Rattle.bit_matrix.specs.ShapeClauses.{Image};
+ghost use Rattle.bit_matrix.specs.ImageClauses.{RanOn};
 ghost use Rattle.bit_matrix_area.specs.Area.{try_get_area};
 ghost use Rattle.detector_walks.specs.Walks.{find_width_at_degree};
 ghost use Rattle.detector_walks.specs.WalksClauses.{Lent};
 ghost use Rattle.detector_center.specs.Center.{corrected};
-ghost use Rattle.detector_turn.specs.ScalesClauses.{LentCircle};
+ghost use Rattle.detector_turn.specs.ScalesClauses.{LentCircle, InsideCircle};
 ghost use Rattle.detector_box.specs.Boxes.{symbol_at};
 ghost use Rattle.detector_symbol.specs.Symbols.{with_symbol};
 ghost use Rattle.step_exports.specs.Steps.{Guarded, refused_answer, number_in, shape_in, pixel_in, circle_in, through, sample_number, width_words, pixel_words};
 
 use crate::guards::{REFUSED, is_image, is_lent, is_radius};
-use bit_matrix::Shape;
+use bit_matrix::BitMatrix;
 use detector_circle::Circle;
 use rxing_result_point::PointU;
 use sines::Sines;
@@ -37,7 +38,12 @@ pub extern "C" fn step_try_get_area(words: &[u64], marks: &mut [u64], numbers: &
     if !is_image(words, marks, shape) {
         return REFUSED;
     }
-    let sample = bit_matrix_area::try_get_area(words, marks, shape, x, y);
+    let mut image = BitMatrix {
+        words,
+        marks,
+        shape,
+    };
+    let sample = bit_matrix_area::try_get_area(&mut image, x, y);
     sample_number(sample)
 }
 
@@ -63,7 +69,12 @@ pub extern "C" fn step_find_width_at_degree(
         return REFUSED;
     }
     let sines = Sines::new();
-    let width = detector_walks::find_width_at_degree(words, marks, shape, center, &sines, degree);
+    let mut image = BitMatrix {
+        words,
+        marks,
+        shape,
+    };
+    let width = detector_walks::find_width_at_degree(&mut image, center, &sines, degree);
     let left = width.left;
     let right = width.right;
     *out = [
@@ -97,24 +108,23 @@ pub extern "C" fn step_corrected_center(
         return REFUSED;
     }
     let sines = Sines::new();
-    let found = detector_center::corrected_center(words, marks, shape, center, &sines);
+    let mut image = BitMatrix {
+        words,
+        marks,
+        shape,
+    };
+    let found = detector_center::corrected_center(&mut image, center, &sines);
     *out = [found.x, found.y];
     0
 }
 
 // A symbol's words in a record, with the table made for it; the ellipse check is off.
-fn boxed(
-    words: &[u64],
-    marks: &mut [u64],
-    fields: [u32; 40],
-    shape: Shape,
-    circle: Circle,
-) -> [u32; 40]
-    requires { LentCircle shape words.now marks.old circle }
-    ensures { Ran (through (with_symbol fields) (symbol_at false shape circle)) words.now marks.old result marks.new }
+fn boxed(image: &mut BitMatrix, fields: [u32; 40], circle: Circle) -> [u32; 40]
+    requires { InsideCircle image.old.shape circle }
+    ensures { RanOn (through (with_symbol fields) (symbol_at false image.old.shape circle)) image.old result image.new }
 {
     let sines = Sines::new();
-    let symbol = detector_box::box_symbol(words, marks, shape, circle, &sines, false);
+    let symbol = detector_box::box_symbol(image, circle, &sines, false);
     let mut out = fields;
     detector_symbol::symbol_fields(&mut out, symbol);
     out
@@ -144,6 +154,11 @@ pub extern "C" fn step_box_symbol(
         return REFUSED;
     }
     let before = *fields;
-    *fields = boxed(words, marks, before, shape, Circle { center, radius });
+    let mut image = BitMatrix {
+        words,
+        marks,
+        shape,
+    };
+    *fields = boxed(&mut image, before, Circle { center, radius });
     0
 }

@@ -1,7 +1,8 @@
 // What several steps test.
-ghost use Rattle.std.specs.Prelude.{◌≡◌, ◌≤◌, ◌<◌, T, length};
+ghost use Rattle.std.specs.Prelude.{◌≡◌, ◌*◌, ◌≤◌, ◌<◌, T, length};
 ghost use Rattle.bit_matrix.specs.Shape.{row_words};
 ghost use Rattle.bit_matrix.specs.ShapeClauses.{Limits, Image, Inside};
+ghost use Rattle.records.specs.Records.{capacity_of};
 ghost use Rattle.detector_size.specs.SizeClauses.{is_scale};
 ghost use Rattle.detector_boundary.specs.BoundaryClauses.{Centered};
 ghost use Rattle.detector_walks.specs.WalksClauses.{Lent};
@@ -21,6 +22,14 @@ pub fn all_small(words: &[u32], n: usize) -> bool
     words[..n].iter().all(|word| *word < 65536)
 }
 
+// Whether records have room for that many candidates, and the words of those are below 2 ^ 16.
+pub fn are_candidates(records: &[u32], found: u32) -> bool
+    ensures { Decides result ((found ≤ capacity_of (length records.now)) × SmallTo (40 * found) records.now) }
+{
+    let count = found as usize;
+    count <= records::capacity_of(records.len()) && all_small(records, 40 * count)
+}
+
 // Whether a shape is within the limits of an image, by the check of images.
 fn is_limited(shape: Shape) -> bool
     requires { shape.row_words ≡ row_words shape.width }
@@ -30,6 +39,7 @@ fn is_limited(shape: Shape) -> bool
 }
 
 // Whether words and marks are an image of a shape.
+// Callers make the image: an Option<BitMatrix> was tried, and the proof that the marks, a slice, stay as they were at None did not close.
 pub fn is_image(words: &[u64], marks: &[u64], shape: Shape) -> bool
     requires { shape.row_words ≡ row_words shape.width }
     ensures { Decides result (Image shape words.now marks.now) }

@@ -5,7 +5,7 @@ ghost use Rattle.detector_kept.specs.Spread.{spread};
 ghost use Rattle.detector_kept.specs.KeptClauses.{KeptAndRanked};
 ghost use Rattle.step_exports.specs.Steps.{Guarded, SmallTo, refused_answer, spread_words};
 
-use crate::guards::{REFUSED, all_small};
+use crate::guards::{REFUSED, are_candidates};
 
 // Deviation and mean of the centres, each x then y.
 #[unsafe(no_mangle)]
@@ -19,14 +19,10 @@ pub extern "C" fn step_calculate_center_point_std_dev(
         ((result ≡ 0) × (out.new ≡ spread_words (spread (rows found records.now))))
         ((result ≡ refused_answer) × (out.new ≡ out.old)) }
 {
-    let count = found as usize;
-    if count > records::capacity_of(records.len()) {
+    if !are_candidates(records, found) {
         return REFUSED;
     }
-    if !all_small(records, 40 * count) {
-        return REFUSED;
-    }
-    let spread = detector_kept::calculate_center_point_std_dev(records, count);
+    let spread = detector_kept::calculate_center_point_std_dev(records, found as usize);
     *out = [spread.x.dev, spread.y.dev, spread.x.mean, spread.y.mean];
     0
 }
@@ -39,13 +35,9 @@ pub extern "C" fn step_keep_and_rank(records: &mut [u32], found: u32) -> usize
         (KeptAndRanked found (capacity_of (length records.old)) records.old result records.new)
         ((result ≡ refused_answer) × (records.new ≡ records.old)) }
 {
-    let count = found as usize;
+    if !are_candidates(records, found) {
+        return REFUSED as usize;
+    }
     let capacity = records::capacity_of(records.len());
-    if count > capacity {
-        return REFUSED as usize;
-    }
-    if !all_small(records, 40 * count) {
-        return REFUSED as usize;
-    }
-    detector_kept::keep_and_rank(records, count, capacity)
+    detector_kept::keep_and_rank(records, found as usize, capacity)
 }

@@ -2,22 +2,22 @@
 ghost use Rattle.std.specs.Prelude.{◌≡◌};
 ghost use Rattle.reads.specs.RunsClauses.{Ran};
 ghost use Rattle.bit_matrix.specs.ShapeClauses.{Image};
+ghost use Rattle.bit_matrix.specs.ImageClauses.{RanOn};
 ghost use Rattle.detector_candidates.specs.Candidates.{concentric_circles};
 ghost use Rattle.detector_candidates.specs.CandidatesClauses.{Room, Listed};
 ghost use Rattle.step_exports.specs.Row.{black_from};
 ghost use Rattle.step_exports.specs.Steps.{Guarded, refused_answer, number_in, shape_in};
 
 use crate::guards::{REFUSED, is_image};
-use bit_matrix::Shape;
+use bit_matrix::BitMatrix;
 
 // How many of a row's first columns are black.
-fn count_row(words: &[u64], marks: &mut [u64], shape: Shape, row: u32, columns: u32) -> u32
-    requires { Image shape words.now marks.old }
-    ensures { Ran (black_from shape row columns 0 0) words.now marks.old result marks.new }
+fn count_row(image: &mut BitMatrix, row: u32, columns: u32) -> u32
+    ensures { RanOn (black_from image.old.shape row columns 0 0) image.old result image.new }
 {
     let mut count = 0u32;
     for x in 0..columns {
-        count += u32::from(bit_matrix::get(words, marks, shape, x, row));
+        count += u32::from(image.get(x, row));
     }
     count
 }
@@ -36,7 +36,12 @@ pub extern "C" fn step_count_row(words: &[u64], marks: &mut [u64], numbers: &[u3
     if !is_image(words, marks, shape) {
         return REFUSED;
     }
-    count_row(words, marks, shape, row, columns)
+    let mut image = BitMatrix {
+        words,
+        marks,
+        shape,
+    };
+    count_row(&mut image, row, columns)
 }
 
 // The candidates of an image. The numbers: width, height, capacity.
@@ -61,5 +66,10 @@ pub extern "C" fn step_find_concentric_circles(
     if capacity > records::capacity_of(records.len()) as u32 {
         return REFUSED as usize;
     }
-    detector_candidates::find_concentric_circles(words, marks, records, shape, capacity as usize)
+    let mut image = BitMatrix {
+        words,
+        marks,
+        shape,
+    };
+    detector_candidates::find_concentric_circles(&mut image, records, capacity as usize)
 }

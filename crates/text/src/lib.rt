@@ -1,4 +1,5 @@
-// Bytes and numbers as text in a lent buffer. `write!` would print them too, but it may answer an error, and no contract says when it does not.
+// Bytes and numbers as text in a lent buffer. `fmt::Write`, `Display` and `write!` would put the same bytes, but their contracts say so only of an `Ok`, and
+// none says when the answer is `Ok`, even of a u32 and a writer that always answers `Ok`: these methods cannot fail.
 #![tactic(auto)]
 
 ghost use Rattle.std.specs.Prelude.{◌≡◌, ◌++◌, ◌+◌, ◌≤◌, length};

@@ -4,7 +4,7 @@ use Rattle.std.proofs.lemmas.List.{map-append}
 use Rattle.text.specs.Text.{hex_of}
 use Rattle.text.specs.TextClauses.{HasRoom, Wrote, Grown}
 use Rattle.text.specs.declared.Text.{Text}
-use Rattle.text.specs.TextLaws.{wrote_then, wrote_none, wrote_as, room_then}
+use Rattle.text.specs.TextLaws.{wrote_then, wrote_as, room_then}
 use Rattle.text_lines.specs.Lines.{following, corner_fields}
 use Rattle.text_lines.specs.LinesLaws.{length_hexes}
 use Rattle.text_lines.proofs.Parted.{following_append}
@@ -20,9 +20,6 @@ pub record Corners (fields : List ℕ) (before : Text) (k : ℕ) (now : Text) : 
   pub wrote : Wrote (following (map hex_of (take k (corners fields)))) before now
 
 module _ {fields : List ℕ} {before : Text} where
-  pub corners_begin : HasRoom 0 before → Corners fields before 0 before
-  corners_begin room = record { few = omega arith; wrote = wrote_none room }
-
   pub corners_room : {k : ℕ} {now : Text} → k < 8 → HasRoom 72 before → Corners fields before k now → HasRoom 9 now
   corners_room {k} {now} less room so_far =
       room_then so_far.wrote 72 9 room

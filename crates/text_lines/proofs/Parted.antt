@@ -4,7 +4,7 @@ use Rattle.text.specs.Text.{ascii, decimal_of, hex_of}
 use Rattle.text.specs.TextClauses.{Wrote}
 use Rattle.text.specs.declared.Text.{Text}
 use Rattle.text.specs.TextLaws.{wrote_then, wrote_as}
-use Rattle.text_lines.specs.Lines.{following, parted, degrees_of, corner_fields, hex_fields, record_line}
+use Rattle.text_lines.specs.Lines.{following, parted, circle_fields, turn_fields, corner_fields, hex_fields, record_line}
 
 pub following_append : (ts us : List (List ℕ)) → following (ts ++ us) ≡ following ts ++ following us
 following_append [] us = refl
@@ -21,15 +21,12 @@ parted_three t ts us vs =
     ∙ ap (λ (l : List ℕ). t ++ (l ++ following vs)) (sym (following_append ts us)) ∙ ap (λ (l : List ℕ). t ++ l) (sym (following_append (ts ++ us) vs))
 
 -- the line of a record, part by part
-module _ (fields : List ℕ) where
-  abbrev word : ℕ → ℕ
-  word i = get_or fields i 0
-
-  pub wrote_line : {a b c d e f : Text} → Wrote (parted (map decimal_of (word 0 ∷ word 1 ∷ word 2 ∷ []))) a b
-      → Wrote (following (map decimal_of (word 26 ∷ word 27 ∷ degrees_of (word 28) ∷ word 39 ∷ []))) b c → Wrote (ascii " " ++ hex_of (word 25)) c d
-      → Wrote (following (map hex_of (corner_fields fields))) d e → Wrote (ascii "\n") e f → Wrote (record_line fields) a f
-  unfolding record_line
-  wrote_line circle turn variance corners end =
-      let numbers : List (List ℕ) = map decimal_of (word 26 ∷ word 27 ∷ degrees_of (word 28) ∷ word 39 ∷ []) in
-      let all = parted_three (decimal_of (word 0)) (decimal_of (word 1) ∷ decimal_of (word 2) ∷ []) numbers (map hex_of (hex_fields fields)) in
-      wrote_then (wrote_as all (wrote_then (wrote_then circle turn) (wrote_then variance corners))) end
+pub wrote_line : (fields : List ℕ) {a b c d e f : Text} → Wrote (parted (map decimal_of (circle_fields fields))) a b
+    → Wrote (following (map decimal_of (turn_fields fields))) b c → Wrote (ascii " " ++ hex_of (get_or fields 25 0)) c d
+    → Wrote (following (map hex_of (corner_fields fields))) d e → Wrote (ascii "\n") e f → Wrote (record_line fields) a f
+unfolding record_line
+wrote_line fields circle turn variance corners end =
+    let all =
+    parted_three (decimal_of (get_or fields 0 0)) (decimal_of (get_or fields 1 0) ∷ decimal_of (get_or fields 2 0) ∷ [])
+    (map decimal_of (turn_fields fields)) (map hex_of (hex_fields fields)) in
+    wrote_then (wrote_as all (wrote_then (wrote_then circle turn) (wrote_then variance corners))) end

@@ -28,11 +28,16 @@ degrees_of bits = to_unsigned 32 (of_bits binary32 bits)
 abbrev pub corner_fields : List ℕ → List ℕ
 corner_fields fields = take 8 (drop field.corners fields)
 
--- what the line of a record has in decimal: x, y, radius, outcome, scale, rotation and class
+-- what the line of a record has in decimal: x, y and radius, then outcome, scale, rotation and class
+abbrev pub circle_fields : List ℕ → List ℕ
+circle_fields fields = get_or fields field.center_x 0 ∷ get_or fields field.center_y 0 ∷ get_or fields field.radius 0 ∷ []
+
+abbrev pub turn_fields : List ℕ → List ℕ
+turn_fields fields =
+    get_or fields field.outcome 0 ∷ get_or fields field.scale 0 ∷ degrees_of (get_or fields field.rotation 0) ∷ get_or fields field.class 0 ∷ []
+
 abbrev pub decimal_fields : List ℕ → List ℕ
-decimal_fields fields =
-    get_or fields field.center_x 0 ∷ get_or fields field.center_y 0 ∷ get_or fields field.radius 0
-    ∷ get_or fields field.outcome 0 ∷ get_or fields field.scale 0 ∷ degrees_of (get_or fields field.rotation 0) ∷ get_or fields field.class 0 ∷ []
+decimal_fields fields = circle_fields fields ++ turn_fields fields
 
 -- and in hexadecimal: the variance and the corners
 abbrev pub hex_fields : List ℕ → List ℕ

@@ -25,9 +25,6 @@ module _ {records : List Record} {before : Text} where
   unfolding flat_map
   lines_begin room = record { few = omega arith; wrote = wrote_none room; place = omega arith }
 
-  pub lines_room : {i : ℕ} {now : Text} → i < length records → HasRoom (200 * length records) before → Lines records before i now → HasRoom 200 now
-  lines_room less room so_far = omega (arith, so_far.place, so_far.wrote.puts.size)
-
   pub lines_then : {i : ℕ} {now after : Text} → i < length records → Wrote (record_line (get_or records i [])) now after → Lines records before i now
       → Lines records before (i + 1) after
   unfolding flat_map

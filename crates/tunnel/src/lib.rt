@@ -13,11 +13,11 @@ ghost use Rattle.tunnel.specs.Options.{is_on};
 use detector::Report;
 
 // The number that an entry answers: 0, or that of what went wrong.
-fn answer<E: Into<u32>>(outcome: Result<(), E>) -> u32
+fn answer<T: Drop, E: Into<u32>>(outcome: Result<T, E>) -> u32
     ensures { MatchResult outcome (λ done. result ≡ 0) (λ e. E.converts e result) }
 {
     match outcome {
-        Ok(()) => 0,
+        Ok(_) => 0,
         Err(e) => e.into(),
     }
 }
@@ -27,7 +27,7 @@ fn answer<E: Into<u32>>(outcome: Result<(), E>) -> u32
 pub extern "C" fn maxicode_check(file: &[u8]) -> u32
     ensures { result ≡ refusal file.now }
 {
-    answer(crop::check(file))
+    answer(crop::check_file(file))
 }
 
 // The words of a crop file into a lent buffer, which is written only when the answer is 0.

@@ -2,5 +2,5 @@
 use Rattle.bit_matrix_nine.proofs.Taking.{taken_three}
 use Rattle.bit_matrix_nine.proofs.take_three.Goals as goal
 
-pub returns : goal.returns
-returns c = search taken_three
+pub returns-clause-taken : goal.returns-clause-taken
+returns-clause-taken c = search taken_three

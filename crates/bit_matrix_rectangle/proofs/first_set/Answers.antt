@@ -19,5 +19,5 @@ first_is words (Some i) found = (
   found.0,
 )
 
-pub returns : goal.returns
-returns c = first_is c.args.words.now c.position.result (search (rules, chains))
+pub returns-clause-first : goal.returns-clause-first
+returns-clause-first c = first_is c.args.words.now c.position.result (search (rules, chains))

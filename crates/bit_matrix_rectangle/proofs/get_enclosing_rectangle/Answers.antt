@@ -152,27 +152,27 @@ rows_lem : (shape : Shape) (words : List ℕ) → ImageAccepted shape words → 
     → last ≡ greatest_below (is_set words) (length words) → Rows shape words (first / shape.row_words) (last / shape.row_words)
 rows_lem shape words ok top fits bottom = rows_of shape words ok top.0 (ne_of_lt top.1) fits bottom
 
-columns_at : (c : After-right-right) → (c.left-left.result ≤ c.right-right.result) × (c.right-right.result < c.args.shape.width)
+columns_at : (c : After-right-right) → (c.left-left.result ≤ c.right-right.result) × (c.right-right.result < c.args.image.now.shape.width)
 columns_at c =
-    let top = c.in_ok-top.ensures in
-    ordered c.args.shape c.args.words.now c.requires top.0 (ne_of_lt top.1) (λ i. omega (arith, c.type_inv.words i)) c.in_ok-bottom.ensures
+    let top = c.in_ok-top.ensures.first in
+    ordered c.args.image.now.shape c.args.image.now.words.now c.requires top.0 (ne_of_lt top.1) c.first_set.ensures.fits c.in_ok-bottom.ensures
     c.left-left.ensures c.right-right.ensures
 
 pub returns-in_err-top : goal.returns-in_err-top
-returns-in_err-top c = c.from_residual.ensures ∙ blank c.args.shape c.args.words.now c.requires (sym c.in_err-top.ensures) refl
+returns-in_err-top c = c.from_residual.ensures ∙ blank c.args.image.now.shape c.args.image.now.words.now c.requires (sym c.in_err-top.ensures.first) refl
 
 pub returns-in_err-bottom : goal.returns-in_err-bottom
 returns-in_err-bottom c =
-    c.from_residual-in_err-bottom.ensures ∙ blank c.args.shape c.args.words.now c.requires (sym c.in_err-bottom.ensures) refl
+    c.from_residual-in_err-bottom.ensures ∙ blank c.args.image.now.shape c.args.image.now.words.now c.requires (sym c.in_err-bottom.ensures) refl
 
-pub left-left-requires : goal.left-left-requires
-left-left-requires c = (c.requires, rows_lem c.args.shape c.args.words.now c.requires c.in_ok-top.ensures (λ i. omega (arith, c.type_inv.words i)) c.in_ok-bottom.ensures)
-
-pub right-right-requires : goal.right-right-requires
-right-right-requires c = (c.requires, rows_lem c.args.shape c.args.words.now c.requires c.in_ok-top.ensures (λ i. omega (arith, c.type_inv.words i)) c.in_ok-bottom.ensures)
+pub invariant_of-rows : goal.invariant_of-rows
+invariant_of-rows c = record {
+  accepted = c.requires;
+  rows = rows_lem c.args.image.now.shape c.args.image.now.words.now c.requires c.in_ok-top.ensures.first c.first_set.ensures.fits c.in_ok-bottom.ensures;
+}
 
 pub overflow_cast-result : goal.overflow_cast-result
-overflow_cast-result c = omega (arith, rows_lem c.args.shape c.args.words.now c.requires c.in_ok-top.ensures (λ i. omega (arith, c.type_inv.words i)) c.in_ok-bottom.ensures)
+overflow_cast-result c = omega (arith, rows_lem c.args.image.now.shape c.args.image.now.words.now c.requires c.in_ok-top.ensures.first c.first_set.ensures.fits c.in_ok-bottom.ensures)
 
 pub overflow_sub-result : goal.overflow_sub-result
 overflow_sub-result c = omega (arith, columns_at c)
@@ -181,16 +181,16 @@ pub overflow_add-result : goal.overflow_add-result
 overflow_add-result c = omega (arith, columns_at c)
 
 pub overflow_sub-result-2 : goal.overflow_sub-result-2
-overflow_sub-result-2 c = omega (arith, rows_lem c.args.shape c.args.words.now c.requires c.in_ok-top.ensures (λ i. omega (arith, c.type_inv.words i)) c.in_ok-bottom.ensures)
+overflow_sub-result-2 c = omega (arith, rows_lem c.args.image.now.shape c.args.image.now.words.now c.requires c.in_ok-top.ensures.first c.first_set.ensures.fits c.in_ok-bottom.ensures)
 
 pub overflow_add-result-2 : goal.overflow_add-result-2
-overflow_add-result-2 c = omega (arith, rows_lem c.args.shape c.args.words.now c.requires c.in_ok-top.ensures (λ i. omega (arith, c.type_inv.words i)) c.in_ok-bottom.ensures)
+overflow_add-result-2 c = omega (arith, rows_lem c.args.image.now.shape c.args.image.now.words.now c.requires c.in_ok-top.ensures.first c.first_set.ensures.fits c.in_ok-bottom.ensures)
 
 pub overflow_cast-result-2 : goal.overflow_cast-result-2
-overflow_cast-result-2 c = omega (arith, rows_lem c.args.shape c.args.words.now c.requires c.in_ok-top.ensures (λ i. omega (arith, c.type_inv.words i)) c.in_ok-bottom.ensures)
+overflow_cast-result-2 c = omega (arith, rows_lem c.args.image.now.shape c.args.image.now.words.now c.requires c.in_ok-top.ensures.first c.first_set.ensures.fits c.in_ok-bottom.ensures)
 
 pub returns : goal.returns
 returns c =
-    let top = c.in_ok-top.ensures in
-    enclosed c.args.shape c.args.words.now c.requires top.0 (ne_of_lt top.1) (λ i. omega (arith, c.type_inv.words i)) c.in_ok-bottom.ensures
+    let top = c.in_ok-top.ensures.first in
+    enclosed c.args.image.now.shape c.args.image.now.words.now c.requires top.0 (ne_of_lt top.1) c.first_set.ensures.fits c.in_ok-bottom.ensures
     c.left-left.ensures c.right-right.ensures

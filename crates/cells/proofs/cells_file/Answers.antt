@@ -95,6 +95,13 @@ unpack_rows-requires c =
     accepted c.args.file.now c.args.words.now c.args.cells.now c.check_file.ensures c.in_ok-shape.ensures.answer refl c.in_ok-cells_room.ensures
     c.in_ok-shape.ensures.shape
 
+pub invariant_of-read_bits : goal.invariant_of-read_bits
+invariant_of-read_bits c =
+    let image =
+    image_accepted c.args.file.now c.args.words.now c.args.cells.now c.check_file.ensures c.in_ok-shape.ensures.answer refl c.in_ok-cells_room.ensures
+    c.in_ok-shape.ensures.shape c.unpack_rows.ensures in
+    record { limits = image.0.limits; stored = image.0.stored }
+
 pub read_bits-requires : goal.read_bits-requires
 read_bits-requires c =
     image_accepted c.args.file.now c.args.words.now c.args.cells.now c.check_file.ensures c.in_ok-shape.ensures.answer refl c.in_ok-cells_room.ensures

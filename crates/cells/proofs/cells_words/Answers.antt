@@ -50,6 +50,13 @@ returns-in_err-cells_room c =
     (number_some c.in_err-cells_room.field-0.0)
     (cells_carried c.from_residual-in_err-cells_room.result (Refused c.in_err-cells_room.field-0.0) c.from_residual-in_err-cells_room.ensures.1)
 
+pub invariant_of-read_bits : goal.invariant_of-read_bits
+invariant_of-read_bits c =
+    let image =
+    accepted c.args.words.now c.args.width c.args.height c.args.cells.now c.in_ok-shape.ensures.answer refl c.in_ok-cells_room.ensures
+    c.in_ok-shape.ensures.shape in
+    record { limits = image.0.limits; stored = image.0.stored }
+
 pub read_bits-requires : goal.read_bits-requires
 read_bits-requires c =
     accepted c.args.words.now c.args.width c.args.height c.args.cells.now c.in_ok-shape.ensures.answer refl c.in_ok-cells_room.ensures

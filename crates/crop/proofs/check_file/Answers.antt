@@ -65,8 +65,10 @@ returns-in_err-size_refusal c =
     refused_by c.from_residual-in_err-size_refusal.result c.in_err-size_refusal.field-0.0 c.from_residual-in_err-size_refusal.ensures.1
     (bad_size c.args.file.now c.in_ok-shape.ensures c.file_length-needed.ensures c.in_err-size_refusal.ensures (number_some c.in_err-size_refusal.field-0.0))
 
-pub file_padded-requires : goal.file_padded-requires
-file_padded-requires c = within c.args.file.now c.in_ok-shape.ensures c.file_length-needed.ensures c.in_ok-size_refusal.ensures refl
+pub invariant_of-file_padded : goal.invariant_of-file_padded
+invariant_of-file_padded c =
+    let image = within c.args.file.now c.in_ok-shape.ensures c.file_length-needed.ensures c.in_ok-size_refusal.ensures refl in
+    record { limits = image.0; sized = image.1 }
 
 pub returns-then-file_padded : goal.returns-then-file_padded
 returns-then-file_padded c =

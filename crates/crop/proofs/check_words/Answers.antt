@@ -45,9 +45,10 @@ returns-in_err-size_refusal-clause-answer c =
     ∙ bad_size c.args.words.now c.args.width c.args.height c.shape_of-shape.ensures c.image_words-needed.ensures c.in_err-size_refusal.ensures
     (number_some c.in_err-size_refusal.field-0.0)
 
-pub words_padded-requires : goal.words_padded-requires
-words_padded-requires c =
-    within c.args.words.now c.args.width c.args.height c.shape_of-shape.ensures c.image_words-needed.ensures c.in_ok-size_refusal.ensures refl
+pub invariant_of-words_padded : goal.invariant_of-words_padded
+invariant_of-words_padded c =
+    let image = within c.args.words.now c.args.width c.args.height c.shape_of-shape.ensures c.image_words-needed.ensures c.in_ok-size_refusal.ensures refl in
+    record { limits = image.0; stored = image.1 }
 
 pub returns-then-words_padded-clause-answer : goal.returns-then-words_padded-clause-answer
 returns-then-words_padded-clause-answer c =

@@ -16,9 +16,9 @@ module _ (words : List ℕ) (w h marks records : ℕ) {answer : ℕ} (checked : 
   bad_image : (answer ≡ 0 → ⊥) → answer ≡ words_refusal words w h marks records
   bad_image some = six_kept _ some ∙ six_is
 
-  onward : {shape : Shape} {needed r : ℕ} → answer ≡ 0 → shape ≡ shape_of w h → needed ≡ size shape → r ≡ cond (no_room needed marks records) 6 0
+  onward : {shape : Shape} {r : ℕ} → answer ≡ 0 → shape ≡ shape_of w h → r ≡ cond (no_room (size shape) marks records) 6 0
       → r ≡ words_refusal words w h marks records
-  onward zero is needed_is room = six_next _ zero (room ∙ ap (λ (n : ℕ). cond (no_room n marks records) 6 0) (needed_is ∙ ap size is)) ∙ six_is
+  onward zero is room = six_next _ zero (room ∙ ap (λ (s : Shape). cond (no_room (size s) marks records) 6 0) is) ∙ six_is
 
 pub returns-in_err-shape-clause-answer : goal.returns-in_err-shape-clause-answer
 returns-in_err-shape-clause-answer c =
@@ -26,13 +26,7 @@ returns-in_err-shape-clause-answer c =
     ∙ bad_image c.args.words.now c.args.width c.args.height c.args.marks_len c.args.records_len c.in_err-shape.ensures.answer
     (number_some c.in_err-shape.field-0.0)
 
-pub returns-in_err-search_room-clause-answer : goal.returns-in_err-search_room-clause-answer
-returns-in_err-search_room-clause-answer c =
-    carried c.from_residual-in_err-search_room.result c.in_err-search_room.field-0.0 c.from_residual-in_err-search_room.ensures.1
-    ∙ onward c.args.words.now c.args.width c.args.height c.args.marks_len c.args.records_len c.in_ok-shape.ensures.answer refl
-    c.in_ok-shape.ensures.shape c.image_words.ensures c.in_err-search_room.ensures
-
 pub returns-clause-answer : goal.returns-clause-answer
 returns-clause-answer c =
     onward c.args.words.now c.args.width c.args.height c.args.marks_len c.args.records_len c.in_ok-shape.ensures.answer refl
-    c.in_ok-shape.ensures.shape c.image_words.ensures c.in_ok-search_room.ensures
+    c.in_ok-shape.ensures.shape c.search_room.ensures.answer

@@ -9,6 +9,6 @@ use Rattle.crop_padding.proofs.file_padded.Goals as goal
 
 pub returns : goal.returns
 returns c =
-    let p = file_row c.args.file.now c.args.shape.width in
-    any_from_yields_List p _ _ _ c.any.ensures.ran (YieldsList-from_range 0 c.args.shape.height c.args.shape.height refl (search rules)) (λ x b q k. search (rules, tests))
-    ∙ any_is p c.args.shape.height
+    let p = file_row c.args.file.now.bytes.now c.args.file.now.shape.width in
+    any_from_yields_List p _ _ _ c.any.ensures.ran (YieldsList-from_range 0 c.args.file.now.shape.height c.args.file.now.shape.height refl (search rules)) (λ x b q k. search (rules, tests))
+    ∙ any_is p c.args.file.now.shape.height

@@ -29,4 +29,4 @@ module _ (file : List ℕ) (w y : ℕ) (some : 1 ≤ w) where
       go false e = sym (file_row_set file w y some λ zero. eqb-false _ _ e (rest_is ∙ zero))
 
 pub returns : goal.returns
-returns c = tested _ _ _ (omega (arith, c.requires.0.width_least))
+returns c = tested _ _ _ (omega (arith, c.args.file.now.limits.width_least))

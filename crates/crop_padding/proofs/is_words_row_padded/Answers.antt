@@ -28,4 +28,4 @@ module _ (words : List ℕ) (row w y : ℕ) (rows : row ≡ row_words w) (some :
       go false e = sym (words_row_set words w y some low λ zero. eqb-false _ _ e (shifted_is ∙ zero))
 
 pub returns : goal.returns
-returns c = tested _ _ _ _ c.requires.0.rows (omega (arith, c.requires.0.width_least)) (omega (arith, c.type_inv.words (c.args.y * c.args.shape.row_words + (c.args.shape.row_words - 1))))
+returns c = tested _ _ _ _ c.args.image.now.limits.rows (omega (arith, c.args.image.now.limits.width_least)) (omega (arith, c.well_formed))

@@ -9,6 +9,6 @@ use Rattle.crop_padding.proofs.words_padded.Goals as goal
 
 pub returns : goal.returns
 returns c =
-    let p = words_row c.args.words.now c.args.shape.width in
-    any_from_yields_List p _ _ _ c.any.ensures.ran (YieldsList-from_range 0 c.args.shape.height c.args.shape.height refl (search rules)) (λ x b q k. search (rules, tests))
-    ∙ any_is p c.args.shape.height
+    let p = words_row c.args.image.now.words.now c.args.image.now.shape.width in
+    any_from_yields_List p _ _ _ c.any.ensures.ran (YieldsList-from_range 0 c.args.image.now.shape.height c.args.image.now.shape.height refl (search rules)) (λ x b q k. search (rules, tests))
+    ∙ any_is p c.args.image.now.shape.height

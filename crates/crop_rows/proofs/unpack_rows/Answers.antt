@@ -1,6 +1,6 @@
 -- `crop_rows::unpack_rows` meets its contract.
-use Rattle.std.specs.Prelude.{ℕ, suc, ◌+◌, ◌*◌, ◌-◌, ◌/◌, ◌%◌, ◌≤◌, ◌<◌, false, cond, List, ◌++◌, ◌≡◌, refl, min, ltb, length, get_or, set, drop}
-use Rattle.std.proofs.Common.{arith, sym, ap, ap₂, ◌∙◌, mul-le-mul_right, lt-ltb, le-ltb, length-set, mul_comm}
+use Rattle.std.specs.Prelude.{ℕ, ◌+◌, ◌*◌, ◌-◌, ◌/◌, ◌%◌, ◌≤◌, ◌<◌, false, cond, List, ◌++◌, ◌≡◌, refl, min, ltb, length, get_or, set, drop}
+use Rattle.std.proofs.Common.{arith, sym, ap, ap₂, ◌∙◌, lt-ltb, le-ltb, length-set, mul_comm}
 use Rattle.std.proofs.Math.Arith.{digits_lt}
 use Rattle.std.proofs.Math.Decide.{dec_lt}
 use Rattle.reads.specs.Bits.{test_bit}
@@ -17,7 +17,6 @@ use Rattle.crop_rows.specs.UnpackClauses.{FileAccepted}
 use Rattle.crop_rows.specs.Unpack.{pixel_of, word_of, unpacked}
 use Rattle.crop_rows.specs.UnpackLaws.{word_at}
 use Rattle.crop_rows.proofs.unpack_rows.Invariants.{Storing}
-use Rattle.crop_rows.proofs.unpack_rows.Goals.{In-loop-x, Start}
 use Rattle.crop_rows.proofs.unpack_rows.Goals as goal
 
 -- bit k of word x lies in the row's bytes before and after its byte is reversed
@@ -69,14 +68,7 @@ module _ {file : List ℕ} (words₀ : List ℕ) {shape : Shape} (ok : FileAccep
       record { stored = firsts_none (word_of file shape.width) words₀ ∙ ap (λ (n : ℕ). firsts (word_of file shape.width) n ++ drop n words₀) none; sized = refl }
 
   module _ {y : ℕ} (row : y < shape.height) where
-    -- the row lies in the file
-    row_inside : 4 + y * row_bytes shape.width + row_bytes shape.width ≤ length file
-    row_inside = omega (arith, ok.long, mul-le-mul_right {m = suc y} {n = shape.height} (row_bytes shape.width) row)
-
     module _ {x : ℕ} (column : x < shape.row_words) where
-      word_inside : 8 * x < row_bytes shape.width
-      word_inside = omega (arith, ok.limits.rows)
-
       place_inside : y * shape.row_words + x < size shape
       place_inside = omega (arith, digits_lt {r = x} {c = shape.row_words} row column)
 
@@ -111,17 +103,8 @@ module _ {file : List ℕ} (words₀ : List ℕ) {shape : Shape} (ok : FileAccep
 pub loop-y-init : goal.loop-y-init
 loop-y-init c = search begins
 
-pub loop-x-init : goal.loop-x-init
-loop-x-init c = moved c.args.words.now c.requires.0 c.requires.1 c.loop-y.invariant (omega arith)
-
 pub loop-x-preserved : goal.loop-x-preserved
 loop-x-preserved c = more c.args.words.now c.requires.0 c.requires.1 c.loop-y-test.true c.loop-x-test.true c.loop-x.invariant c.load.ensures c.reverse.ensures
-
-pub loop-y-preserved : goal.loop-y-preserved
-loop-y-preserved c =
-    let all : c.loop-x.x ≡ c.args.shape.row_words = omega arith in
-    moved c.args.words.now c.requires.0 c.requires.1 c.loop-x.invariant
-    (ap (λ (n : ℕ). c.loop-y.y * c.args.shape.row_words + n) all ∙ omega arith)
 
 pub returns : goal.returns
 returns c =

@@ -4,7 +4,6 @@ use Rattle.reads.specs.Bits.{zeros}
 use Rattle.reads.specs.Runs.{value_of, marks_of}
 use Rattle.bit_matrix.specs.declared.Shape.{Shape}
 use Rattle.bit_matrix.specs.ShapeClauses.{Image}
-use Rattle.bit_matrix.specs.ShapeLaws.{image_kept}
 use Rattle.marks.specs.Marks.{ones_of}
 use Rattle.records.specs.Records.{capacity_of, laid_out}
 use Rattle.detector_candidates.specs.CandidatesClauses.{Room}
@@ -37,9 +36,6 @@ accepted_by shape ellipse {words} {marks} {cleared} {records} {marks'} {records'
     made ∙ ap₂ report_of full.counts (counted ∙ ap ones_of marked) in
     ap₂ (λ (x : Report) (l : List ℕ). run x l marks') report full.stored
     ∙ ap (run _ (laid_out (capacity_of (length records)) (value_of (steps shape (length records) ellipse) words).records records)) marked
-
-pub search-counts-requires : goal.search-counts-requires
-search-counts-requires c = search (image_kept, room_of)
 
 pub returns : goal.returns
 returns c = search accepted_by

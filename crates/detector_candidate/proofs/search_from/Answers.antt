@@ -1,10 +1,10 @@
 -- `detector_candidate::search_from` meets its contract. That a window's centre and radius fit is a fact of the definition of the row search.
-use Rattle.std.proofs.Common.{ℕ, ◌+◌, ◌^◌, ◌≤◌, ◌<◌, ◌≡◌, List, Option, Some, None, arith, rules}
+use Rattle.std.proofs.Common.{ℕ, ◌+◌, ◌^◌, ◌≤◌, ◌<◌, ◌≡◌, List, Option, Some, None, arith}
 use Rattle.reads.specs.Bits.{bit_at}
-use Rattle.reads.specs.RunsClauses.{Ran}
-use Rattle.reads.proofs.RunsLaws.{ran_is, ran_done, ran_bind, on_ran}
-use Rattle.bit_matrix.specs.declared.Shape.{Shape}
-use Rattle.bit_matrix.specs.ShapeClauses.{Limits}
+use Rattle.reads.proofs.RunsLaws.{on_ran}
+use Rattle.bit_matrix.specs.declared.BitMatrix.{BitMatrix}
+use Rattle.bit_matrix.specs.ImageClauses.{RanOn}
+use Rattle.bit_matrix.proofs.ImageLaws.{on_is, on_done, on_bind, on_next}
 use Rattle.detector_rows.specs.RowsClauses.{next_bullseye}
 use Rattle.detector_first_window.specs.FirstWindowLaws.{Closed}
 use Rattle.detector_rows.specs.RowsLaws.{closed_on}
@@ -15,15 +15,15 @@ use Rattle.detector_candidate.specs.CandidateClauses.{Searchable, search_from}
 use Rattle.detector_candidate.specs.declared.Searched.{Searched}
 use Rattle.detector_candidate.proofs.search_from.Goals as goal
 
-module _ {words marks m₁ : List ℕ} (shape : Shape) (row column : ℕ) where
-  ends : Ran (next_bullseye shape row column) words marks None m₁ → Ran (search_from shape row column) words marks nothing m₁
+module _ {image i₁ : BitMatrix} (row column : ℕ) where
+  ends : RanOn (next_bullseye image.shape row column) image None i₁ → RanOn (search_from image.shape row column) image nothing i₁
   unfolding search_by
-  ends ran = ran_bind _ ran (ran_done nothing)
+  ends run = on_bind _ run (on_done nothing)
 
-  module _ {eye : Bullseye} (ran : Ran (next_bullseye shape row column) words marks (Some eye) m₁) where
-    module _ (limits : Limits shape) (at : Searchable shape row column) where
-      closed : Closed shape (bit_at words) row column eye
-      closed = on_ran (closed_on shape row column (bit_at words)) ran
+  module _ {eye : Bullseye} (run : RanOn (next_bullseye image.shape row column) image (Some eye) i₁) where
+    module _ (at : Searchable image.shape row column) where
+      closed : Closed image.shape (bit_at image.words.now) row column eye
+      closed = on_ran (closed_on image.shape row column (bit_at image.words.now)) run.ran
 
       -- the radius fits left of the centre
       radius_left : eye.radius ≤ eye.center
@@ -31,33 +31,31 @@ module _ {words marks m₁ : List ℕ} (shape : Shape) (row column : ℕ) where
 
       column_fits : (0 < eye.center) × (eye.center + 1 < 2 ^ 32)
       column_fits =
-          (omega (arith, radius_left, closed.half, closed.eleven_pixels), omega (arith, limits.width_most, closed.before_limit))
+          (omega (arith, radius_left, closed.half, closed.eleven_pixels), omega (arith, image.is_image.limits.width_most, closed.before_limit))
 
       closing_fits : eye.center + eye.radius < 2 ^ 32
-      closing_fits = omega (arith, limits.width_most, closed.before_limit)
+      closing_fits = omega (arith, image.is_image.limits.width_most, closed.before_limit)
 
-    looked : {vertical : Option (List ℕ)} {m₂ : List ℕ} {s : Searched} → Ran (verify_bullseye_vertical shape row eye.center) words m₁ vertical m₂
-        → s ≡ judged row column eye vertical → Ran (search_from shape row column) words marks s m₂
+    looked : {vertical : Option (List ℕ)} {i₂ : BitMatrix} {s : Searched} → RanOn (verify_bullseye_vertical i₁.shape row eye.center) i₁ vertical i₂
+        → s ≡ judged row column eye vertical → RanOn (search_from image.shape row column) image s i₂
     unfolding search_by
-    looked look made = ran_bind _ ran (ran_bind _ look (ran_is made))
+    looked look made = on_bind _ run (on_bind _ (on_next (λ shape. verify_bullseye_vertical shape row eye.center) run.kept look) (on_is made))
 
 pub returns-in_default : goal.returns-in_default
-returns-in_default c = ends _ _ _ c.in_default.ensures
+returns-in_default c = ends _ _ c.in_default.ensures
 
 pub verify_bullseye_vertical-requires : goal.verify_bullseye_vertical-requires
-verify_bullseye_vertical-requires c =
-    let fits = column_fits _ _ _ c.in-Some.ensures c.requires.0.limits c.requires.1 in
-    (search rules, fits.0, fits.1)
+verify_bullseye_vertical-requires c = column_fits _ _ c.in-Some.ensures c.requires
 
 pub bullseye_passed-requires : goal.bullseye_passed-requires
-bullseye_passed-requires c = closing_fits _ _ _ c.in-Some.ensures c.requires.0.limits c.requires.1
+bullseye_passed-requires c = closing_fits _ _ c.in-Some.ensures c.requires
 
 pub bullseye_failed-requires : goal.bullseye_failed-requires
-bullseye_failed-requires c = radius_left _ _ _ c.in-Some.ensures c.requires.0.limits c.requires.1
+bullseye_failed-requires c = radius_left _ _ c.in-Some.ensures c.requires
 
 pub returns-in-Some-verify_bullseye_vertical : goal.returns-in-Some-verify_bullseye_vertical
 returns-in-Some-verify_bullseye_vertical c =
-    looked _ _ _ c.in-Some.ensures (c.in-Some-verify_bullseye_vertical).ensures c.bullseye_passed.ensures
+    looked _ _ c.in-Some.ensures (c.in-Some-verify_bullseye_vertical).ensures c.bullseye_passed.ensures
 
 pub returns-in-None : goal.returns-in-None
-returns-in-None c = looked _ _ _ c.in-Some.ensures c.in-None.ensures c.bullseye_failed.ensures
+returns-in-None c = looked _ _ c.in-Some.ensures c.in-None.ensures c.bullseye_failed.ensures

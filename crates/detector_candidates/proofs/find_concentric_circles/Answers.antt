@@ -2,19 +2,18 @@
 use Rattle.std.proofs.Common.{ℕ, refl, List, arith}
 use Rattle.reads.proofs.RunsLaws.{resumes_start}
 use Rattle.records.specs.Records.{rows}
-use Rattle.bit_matrix.specs.declared.Shape.{Shape}
-use Rattle.bit_matrix.specs.ShapeClauses.{Image}
+use Rattle.bit_matrix.specs.declared.BitMatrix.{BitMatrix}
+use Rattle.bit_matrix.proofs.ImageLaws.{kept_same}
 use Rattle.detector_candidates.specs.CandidatesClauses.{Room}
 use Rattle.detector_candidates.specs.Candidates.{concentric_circles_by}
 use Rattle.detector_candidates.proofs.find_concentric_circles.Invariants.{Sweeping, at_full, onward, past}
 use Rattle.detector_candidates.proofs.find_concentric_circles.Goals as goal
 
-begins : {words marks records : List ℕ} {shape : Shape} {capacity : ℕ} → Image shape words marks → Room capacity records 0
-    → Sweeping words marks records shape capacity marks records 0 6
+begins : (image : BitMatrix) {records : List ℕ} {capacity : ℕ} → Room capacity records 0 → Sweeping image records capacity image records 0 6
 unfolding concentric_circles_by rows
-begins {shape = shape} image room = record {
-  fuel = shape.height;
-  image = image;
+begins image room = record {
+  fuel = image.shape.height;
+  kept = kept_same;
   room = room;
   same = refl;
   fueled = omega arith;
@@ -26,19 +25,23 @@ pub loop-row-init : goal.loop-row-init
 loop-row-init c = search begins
 
 pub sweep_row-found-requires : goal.sweep_row-found-requires
-sweep_row-found-requires c = (c.loop-row.invariant.image, omega arith, c.loop-row.invariant.room)
+sweep_row-found-requires c = (rw c.loop-row.invariant.kept.shape (omega arith), c.loop-row.invariant.room)
 
-pub returns-then-found-capacity : goal.returns-then-found-capacity
-returns-then-found-capacity c = search at_full
+pub returns-then-found-capacity-clause-listed : goal.returns-then-found-capacity-clause-listed
+returns-then-found-capacity-clause-listed c =
+    at_full c.loop-row.invariant c.loop-row-test.true c.sweep_row-found.new.image c.sweep_row-found.ensures.listed c.if-found-capacity.true
 
 pub loop-row-preserved : goal.loop-row-preserved
-loop-row-preserved c = search onward
+loop-row-preserved c =
+    onward c.loop-row.invariant c.loop-row-test.true _ c.sweep_row-found.ensures.listed c.if-found-capacity.false c.sweep_row-found.ensures.kept
+    c.sweep_row-found.auto.records
 
-pub returns : goal.returns
-returns c = search past
+pub returns-clause-listed : goal.returns-clause-listed
+returns-clause-listed c = past c.loop-row.invariant c.loop-row-test.false
 
-pub returns-else-found-capacity : goal.returns-else-found-capacity
-returns-else-found-capacity c =
+pub returns-else-found-capacity-clause-listed : goal.returns-else-found-capacity-clause-listed
+returns-else-found-capacity-clause-listed c =
     past
-    (onward c.loop-row.invariant c.loop-row-test.true c.sweep_row-found.ensures c.if-found-capacity.false c.sweep_row-found.auto.marks c.sweep_row-found.auto.records)
+    (onward c.loop-row.invariant c.loop-row-test.true _ c.sweep_row-found.ensures.listed c.if-found-capacity.false c.sweep_row-found.ensures.kept
+    c.sweep_row-found.auto.records)
     (omega arith)

@@ -10,8 +10,9 @@ use Rattle.reads.proofs.RunsLaws.{ran_done, always_ran, resumes_step, resumes_th
 use Rattle.records.specs.Records.{Record, rows}
 use Rattle.records.specs.RecordsLaws.{length_rows}
 use Rattle.bit_matrix.specs.declared.Shape.{Shape}
-use Rattle.bit_matrix.specs.ShapeClauses.{Image}
-use Rattle.bit_matrix.specs.ShapeLaws.{image_kept}
+use Rattle.bit_matrix.specs.declared.BitMatrix.{BitMatrix}
+use Rattle.bit_matrix.specs.ImageClauses.{Kept}
+use Rattle.bit_matrix.proofs.ImageLaws.{kept_on}
 use Rattle.detector_candidate.specs.CandidateClauses.{search_from}
 use Rattle.detector_candidates.specs.CandidatesClauses.{row_from, rows_from, Room, Listed}
 use Rattle.detector_candidates.specs.Candidates.{after, row_on, row_by, rows_by, concentric_circles}
@@ -37,49 +38,60 @@ row_more shape capacity (suc n) row column circles =
     (λ _. always_done more)
     (λ _. on_more s.next now _ more (λ further. record { on = λ image. omega (arith, more, (row_more shape capacity n row further now).on image) }))
 
-pub record Sweeping (words marks₀ records₀ : List ℕ) (shape : Shape) (capacity : ℕ) (marks records : List ℕ) (found row : ℕ) : Type 0 where
+pub record Sweeping (first : BitMatrix) (records₀ : List ℕ) (capacity : ℕ) (image : BitMatrix) (records : List ℕ) (found row : ℕ) : Type 0 where
   pub fuel : ℕ
-  pub image : Image shape words marks
+  pub kept : Kept first image
   pub room : Room capacity records found
   pub same : length records ≡ length records₀
-  pub fueled : shape.height - row ≤ fuel
+  pub fueled : first.shape.height - row ≤ fuel
   pub rest : drop (40 * found) records ≡ drop (40 * found) records₀
-  pub resumes : Resumes words
-      (rows_from shape capacity fuel row (rows found records)) marks
-      (concentric_circles shape capacity) marks₀
+  pub resumes : Resumes first.words.now
+      (rows_from first.shape capacity fuel row (rows found records)) image.marks.now
+      (concentric_circles first.shape capacity) first.marks.now
 
-module _ {words marks₀ records₀ marks records : List ℕ} {shape : Shape} {capacity found row : ℕ}
-    (so_far : Sweeping words marks₀ records₀ shape capacity marks records found row) where
+module _ {first image : BitMatrix} {records₀ records : List ℕ} {capacity found row : ℕ}
+    (so_far : Sweeping first records₀ capacity image records found row) where
+  abbrev shape : Shape
+  shape = first.shape
+
+  abbrev words : List ℕ
+  words = first.words.now
+
   abbrev pub whole : Reads (List Record)
   whole = concentric_circles shape capacity
 
   -- past the last row
-  pub past : shape.height - 6 ≤ row → Listed whole capacity words marks₀ records₀ found marks records
+  pub past : shape.height - 6 ≤ row → Listed whole capacity words first.marks.now records₀ found image.marks.now records
   unfolding rows_by
   past h = listed (go so_far.fuel so_far.resumes)
     where
-      listed : Ran whole words marks₀ (rows found records) marks → Listed whole capacity words marks₀ records₀ found marks records
+      listed : Ran whole words first.marks.now (rows found records) image.marks.now
+          → Listed whole capacity words first.marks.now records₀ found image.marks.now records
       listed end = record {
         stored = rw (← end.result)
             (stored_all (rows found records) (sym (length_rows found records)) so_far.room.few (record { records = refl; rest = so_far.rest }));
         marked = end.marked;
       }
 
-      go : (n : ℕ) → Resumes words (rows_from shape capacity n row (rows found records)) marks whole marks₀
-          → Ran whole words marks₀ (rows found records) marks
+      go : (n : ℕ) → Resumes words (rows_from shape capacity n row (rows found records)) image.marks.now whole first.marks.now
+          → Ran whole words first.marks.now (rows found records) image.marks.now
       go zero resumes = resumes_end (ran_done _) resumes
       go (suc n) resumes = resumes_end (ran_done _) (resumes_else _ _ (le-ltb row (shape.height - 6) h) resumes)
 
   -- a row
-  module _ (h : row < shape.height - 6) {found' : ℕ} {marks' records' : List ℕ}
-      (listed : Listed (row_from shape capacity shape.width row 6 (rows found records)) capacity words marks records found' marks' records') where
+  module _ (h : row < shape.height - 6) {found' : ℕ} (image' : BitMatrix) {records' : List ℕ}
+      (swept : Listed (row_from image.shape capacity image.shape.width row 6 (rows found records)) capacity image.words.now image.marks.now records found'
+      image'.marks.now records') where
     abbrev pub step : Reads (List Record)
     step = row_from shape capacity shape.width row 6 (rows found records)
+
+    listed : Listed step capacity words image.marks.now records found' image'.marks.now records'
+    listed = rw (so_far.kept.shape, so_far.kept.words) at swept
 
     abbrev pub now : List Record
     now = value_of step words
 
-    pub ran : Ran step words marks now marks'
+    pub ran : Ran step words image.marks.now now image'.marks.now
     ran = record { result = refl; marked = listed.marked }
 
     pub more : found ≤ found'
@@ -91,31 +103,31 @@ module _ {words marks₀ records₀ marks records : List ℕ} {shape : Shape} {c
     pub record Turned : Type 0 where
       pub fuel : ℕ
       pub fueled : shape.height - row ≤ suc fuel
-      pub resumes : Resumes words (cond (ltb capacity (length now)) (done now) (rows_from shape capacity fuel (row + 2) now)) marks' whole marks₀
+      pub resumes : Resumes words (cond (ltb capacity (length now)) (done now) (rows_from shape capacity fuel (row + 2) now)) image'.marks.now
+          whole first.marks.now
 
     pub turned : Turned
     unfolding rows_by
     turned = go so_far.fuel so_far.fueled so_far.resumes
       where
         go : (n : ℕ) → shape.height - row ≤ n
-            → Resumes words (rows_from shape capacity n row (rows found records)) marks whole marks₀ → Turned
+            → Resumes words (rows_from shape capacity n row (rows found records)) image.marks.now whole first.marks.now → Turned
         go zero enough resumes = absurd (omega arith)
         go (suc n) enough resumes =
             record { fuel = n; fueled = enough; resumes = resumes_step _ ran (resumes_then _ _ (lt-ltb row (shape.height - 6) h) resumes) }
 
-    pub at_full : capacity < found' → Listed whole capacity words marks₀ records₀ found' marks' records'
+    pub at_full : capacity < found' → Listed whole capacity words first.marks.now records₀ found' image'.marks.now records'
     at_full full =
         let most : capacity < length now = omega (arith, listed.stored.counted) in
-        let end : Ran whole words marks₀ now marks' = resumes_end (ran_done _) (resumes_then _ _ (lt-ltb capacity _ most) turned.resumes) in
+        let end : Ran whole words first.marks.now now image'.marks.now = resumes_end (ran_done _) (resumes_then _ _ (lt-ltb capacity _ most) turned.resumes) in
         record { stored = rw (← end.result) (stored_since so_far.rest so_far.room.few more listed.stored); marked = end.marked }
 
-    pub onward : found' ≤ capacity → length marks' ≡ length marks → length records' ≡ length records
-        → Sweeping words marks₀ records₀ shape capacity marks' records' found' (row + 2)
-    onward few long same =
+    pub onward : found' ≤ capacity → Kept image image' → length records' ≡ length records → Sweeping first records₀ capacity image' records' found' (row + 2)
+    onward few kept same =
         let most : length now ≤ capacity = omega (arith, listed.stored.counted) in
         record {
           fuel = turned.fuel;
-          image = image_kept so_far.image long;
+          kept = kept_on so_far.kept kept;
           room = record { few = few; most = so_far.room.most; held = rw same so_far.room.held };
           same = same ∙ so_far.same;
           fueled = omega (arith, turned.fueled);
@@ -124,5 +136,4 @@ module _ {words marks₀ records₀ marks records : List ℕ} {shape : Shape} {c
         }
 
 abbrev pub invariant-loop-row : goal.invariant-loop-row
-invariant-loop-row l =
-    Sweeping l.words l.initial.marks l.initial.records l.shape l.capacity l.marks l.records l.found l.row
+invariant-loop-row l = Sweeping l.initial.image l.initial.records l.capacity l.image l.records l.found l.row

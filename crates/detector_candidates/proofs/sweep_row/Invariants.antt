@@ -9,8 +9,9 @@ use Rattle.reads.proofs.RunsLaws.{ran_done, on_ran, resumes_step, resumes_then, 
 use Rattle.records.specs.Records.{Record, rows}
 use Rattle.records.specs.RecordsLaws.{length_rows}
 use Rattle.bit_matrix.specs.declared.Shape.{Shape}
-use Rattle.bit_matrix.specs.ShapeClauses.{Image}
-use Rattle.bit_matrix.specs.ShapeLaws.{image_kept}
+use Rattle.bit_matrix.specs.declared.BitMatrix.{BitMatrix}
+use Rattle.bit_matrix.specs.ImageClauses.{Kept, RanOn}
+use Rattle.bit_matrix.proofs.ImageLaws.{kept_on, onto}
 use Rattle.detector_candidate.specs.CandidateClauses.{Searchable, search_from}
 use Rattle.detector_candidates.specs.CandidatesClauses.{row_from, Room, Stored, Listed}
 use Rattle.detector_candidates.specs.Candidates.{after, row_on, row_by}
@@ -24,17 +25,17 @@ pub record Going (shape : Shape) (row fuel column : ℕ) : Type 0 where
   pub at : Searchable shape row column
   pub fueled : shape.width - column ≤ fuel
 
-pub record Sweeping (words marks₀ records₀ : List ℕ) (shape : Shape) (capacity row found : ℕ) (marks records : List ℕ) (count : ℕ)
+pub record Sweeping (first : BitMatrix) (records₀ : List ℕ) (capacity row found : ℕ) (image : BitMatrix) (records : List ℕ) (count : ℕ)
     (next : Option ℕ) : Type 0 where
   pub fuel : ℕ
-  pub image : Image shape words marks
+  pub kept : Kept first image
   pub room : Room capacity records count
   pub same : length records ≡ length records₀
   pub rest : drop (40 * count) records ≡ drop (40 * count) records₀
-  pub going : IfSome next (Going shape row fuel)
-  pub resumes : Resumes words
-      (row_on next (rows count records) (λ column. row_from shape capacity fuel row column (rows count records))) marks
-      (row_from shape capacity shape.width row 6 (rows found records₀)) marks₀
+  pub going : IfSome next (Going first.shape row fuel)
+  pub resumes : Resumes first.words.now
+      (row_on next (rows count records) (λ column. row_from first.shape capacity fuel row column (rows count records))) image.marks.now
+      (row_from first.shape capacity first.shape.width row 6 (rows found records₀)) first.marks.now
 
 -- the columns left, and the search at hand
 abbrev pub columns_left : ℕ → Option ℕ → ℕ
@@ -42,9 +43,10 @@ columns_left width None = 0
 columns_left width (Some column) = suc (width - column)
 
 -- the row has ended
-pub at_end : {words marks₀ records₀ marks records : List ℕ} {shape : Shape} {capacity row found count : ℕ} {next : Option ℕ}
-    → Sweeping words marks₀ records₀ shape capacity row found marks records count next → next ≡ None
-    → Listed (row_from shape capacity shape.width row 6 (rows found records₀)) capacity words marks₀ records₀ count marks records
+pub at_end : {first image : BitMatrix} {records₀ records : List ℕ} {capacity row found count : ℕ} {next : Option ℕ}
+    → Sweeping first records₀ capacity row found image records count next → next ≡ None
+    → Listed (row_from first.shape capacity first.shape.width row 6 (rows found records₀)) capacity first.words.now first.marks.now records₀ count
+    image.marks.now records
 at_end {records = records} {count = count} so_far none =
     let end = resumes_end (ran_done _) (rw none at so_far.resumes) in
     record {
@@ -53,19 +55,28 @@ at_end {records = records} {count = count} so_far none =
       marked = end.marked;
     }
 
-module _ {words marks₀ records₀ marks records : List ℕ} {shape : Shape} {capacity row found count column : ℕ}
-    (so_far : Sweeping words marks₀ records₀ shape capacity row found marks records count (Some column)) where
+module _ {first image : BitMatrix} {records₀ records : List ℕ} {capacity row found count column : ℕ}
+    (so_far : Sweeping first records₀ capacity row found image records count (Some column)) where
+  abbrev shape : Shape
+  shape = first.shape
+
+  abbrev words : List ℕ
+  words = first.words.now
+
   abbrev pub whole : Reads (List Record)
   whole = row_from shape capacity shape.width row 6 (rows found records₀)
 
   -- a search, and its candidate appended
-  module _ {s : Searched} {marks' : List ℕ} (ran : Ran (search_from shape row column) words marks s marks')
+  module _ {s : Searched} {image' : BitMatrix} (on : RanOn (search_from image.shape row column) image s image')
       {count' : ℕ} {records' : List ℕ} (stored : Stored capacity records (after (rows count records) s.candidate) count' records') where
     abbrev pub now : List Record
     now = after (rows count records) s.candidate
 
+    ran : Ran (search_from shape row column) words image.marks.now s image'.marks.now
+    ran = onto (λ shape. search_from shape row column) so_far.kept on
+
     pub fits : FitSearch shape (bit_at words) column s
-    fits = on_ran (search_fit shape (bit_at words) row column so_far.image.limits so_far.going.at) ran
+    fits = on_ran (search_fit shape (bit_at words) row column first.is_image.limits so_far.going.at) ran
 
     pub more : count ≤ count'
     more = omega (arith, stored.counted, after_more (rows count records) s.candidate, length_rows count records)
@@ -75,18 +86,19 @@ module _ {words marks₀ records₀ marks records : List ℕ} {shape : Shape} {c
       pub fuel : ℕ
       pub fueled : shape.width - column ≤ suc fuel
       pub resumes : Resumes words
-          (cond (ltb capacity (length now)) (done now) (row_on s.next now (λ further. row_from shape capacity fuel row further now))) marks' whole marks₀
+          (cond (ltb capacity (length now)) (done now) (row_on s.next now (λ further. row_from shape capacity fuel row further now)))
+          image'.marks.now whole first.marks.now
 
     pub turned : Turned
     unfolding row_by
     turned = go so_far.fuel so_far.going.fueled so_far.resumes
       where
         go : (n : ℕ) → shape.width - column ≤ n
-            → Resumes words (row_from shape capacity n row column (rows count records)) marks whole marks₀ → Turned
+            → Resumes words (row_from shape capacity n row column (rows count records)) image.marks.now whole first.marks.now → Turned
         go zero enough resumes = absurd (omega (arith, so_far.going.at.right))
         go (suc n) enough resumes = record { fuel = n; fueled = enough; resumes = resumes_step _ ran resumes }
 
-    pub at_full : capacity < count' → Listed whole capacity words marks₀ records₀ count' marks' records'
+    pub at_full : capacity < count' → Listed whole capacity words first.marks.now records₀ count' image'.marks.now records'
     at_full h =
         let most : capacity < length now = omega (arith, stored.counted) in
         let end = resumes_end (ran_done _) (resumes_then _ _ (lt-ltb capacity _ most) turned.resumes) in
@@ -106,13 +118,12 @@ module _ {words marks₀ records₀ marks records : List ℕ} {shape : Shape} {c
       fueled = omega (arith, turned.fueled, onward.further);
     }
 
-    pub onward : count' ≤ capacity → length marks' ≡ length marks → length records' ≡ length records
-        → Sweeping words marks₀ records₀ shape capacity row found marks' records' count' s.next
-    onward few long same =
+    pub onward : count' ≤ capacity → length records' ≡ length records → Sweeping first records₀ capacity row found image' records' count' s.next
+    onward few same =
         let most : length now ≤ capacity = omega (arith, stored.counted) in
         record {
           fuel = turned.fuel;
-          image = image_kept so_far.image long;
+          kept = kept_on so_far.kept on.kept;
           room = record { few = few; most = so_far.room.most; held = rw same so_far.room.held };
           same = same ∙ so_far.same;
           rest = stored_rest (stored_since so_far.rest so_far.room.few more stored) few;
@@ -121,8 +132,7 @@ module _ {words marks₀ records₀ marks records : List ℕ} {shape : Shape} {c
         }
 
 abbrev pub invariant-loop-next : goal.invariant-loop-next
-invariant-loop-next l =
-    Sweeping l.words l.initial.marks l.initial.records l.shape l.capacity l.row l.found l.marks l.records l.count l.next
+invariant-loop-next l = Sweeping l.initial.image l.initial.records l.capacity l.row l.found l.image l.records l.count l.next
 
 abbrev pub decreases-loop-next : goal.decreases-loop-next
-decreases-loop-next l = columns_left l.shape.width l.next
+decreases-loop-next l = columns_left l.initial.image.shape.width l.next

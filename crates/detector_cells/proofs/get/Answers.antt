@@ -8,7 +8,6 @@ use Rattle.bit_matrix.specs.ShapeClauses.{Limits, Inside}
 use Rattle.bit_matrix.specs.Pixels.{offset}
 use Rattle.bit_matrix.specs.PixelsLaws.{ran_pixel, inside_stored}
 use Rattle.bit_matrix_rectangle.specs.Rectangle.{black_at}
-use Rattle.detector_cells.proofs.get.Goals.{After-get_offset-offset}
 use Rattle.detector_cells.proofs.get.Goals as goal
 
 module _ (words : List ℕ) (shape : Shape) (x y : ℕ) {n : ℕ} (is : n ≡ offset shape x y) (stored : length words ≡ size shape) where
@@ -21,16 +20,6 @@ module _ (words : List ℕ) (shape : Shape) (x y : ℕ) {n : ℕ} (is : n ≡ of
       let word : (y * shape.row_words * 64 + x) / 64 ≡ n = omega (arith, is) in
       let place : (y * shape.row_words * 64 + x) % 64 ≡ x % 64 = omega arith in
       rw (and_mask (get_or words n 0 / 2 ^ (x % 64)) 1, ← word, ← place) (ran_pixel words words shape x y stored refl).result
-
-offset_inside : (c : After-get_offset-offset) → c.get_offset-offset.result < length c.args.words.now
-offset_inside c =
-    inside c.args.words.now c.args.shape c.args.x c.args.y c.get_offset-offset.ensures c.requires.1 c.requires.0 c.requires.2
-
-pub offset_bounds-words-offset : goal.offset_bounds-words-offset
-offset_bounds-words-offset c = omega (arith, offset_inside c)
-
-pub bounds-words-offset : goal.bounds-words-offset
-bounds-words-offset c = search inside
 
 pub returns : goal.returns
 returns c = search tested

@@ -1,5 +1,5 @@
 -- `detector_cells::read_row` meets its contract.
-use Rattle.std.proofs.Common.{ℕ, ◌+◌, ◌*◌, ◌-◌, ◌/◌, ◌%◌, ◌^◌, ◌≤◌, ◌<◌, min, mul-le-mul, add-one, arith, Bool, List, ◌≡◌, refl, ap, ap₂, ◌∙◌, bit_or, shl_exact}
+use Rattle.std.proofs.Common.{ℕ, ◌+◌, ◌*◌, ◌-◌, ◌/◌, ◌%◌, ◌^◌, ◌<◌, min, add-one, arith, Bool, List, ◌≡◌, refl, ap, ap₂, ◌∙◌, bit_or, shl_exact}
 use lib.Bits.{or_shifted_r}
 use Rattle.reads.specs.Bits.{digit}
 use Rattle.reads.proofs.BitsLaws.{digit_low}
@@ -27,15 +27,6 @@ more p x {cells} {b} h so_far is =
 
 -- the products are small
 module _ {shape : Shape} (limits : Limits shape) (r : Rectangle) (within : Within shape.width shape.height r) where
-  rows_small : {y : ℕ} → y < 33 → y * r.height ≤ 32 * 2048
-  rows_small {y} h = mul-le-mul {n₁ = y} {m₁ = r.height} {n₂ = 32} {m₂ = 2048} (omega arith) (omega (arith, within.rows, limits.height_most))
-
-  columns_small : {x : ℕ} → x < 30 → x * r.width ≤ 29 * 2048
-  columns_small {x} h = mul-le-mul {n₁ = x} {m₁ = r.width} {n₂ = 29} {m₂ = 2048} (omega arith) (omega (arith, within.columns, limits.width_most))
-
-  half_small : (y : ℕ) → y % 2 * r.width ≤ 1 * 2048
-  half_small y = mul-le-mul {n₁ = y % 2} {m₁ = r.width} {n₂ = 1} {m₂ = 2048} (omega arith) (omega (arith, within.columns, limits.width_most))
-
   -- where cell x of row y lies, as it was worked out
   module _ (x y : ℕ) {l iy : ℕ} (column : l ≡ min ((x * r.width + r.width / 2 + y % 2 * r.width / 2) / 30) (r.width - 1))
       (row : iy ≡ pixel_row y r.top r.height) where
@@ -47,44 +38,20 @@ module _ {shape : Shape} (limits : Limits shape) (r : Rectangle) (within : Withi
     cell_is : (words : List ℕ) {b : Bool} → b ≡ black_at shape words (r.left + l) iy → b ≡ cell (black_at shape words) r x y
     cell_is words e = e ∙ ap₂ (λ (i j : ℕ). black_at shape words (r.left + i) j) column row
 
-pub overflow_mul-y : goal.overflow_mul-y
-overflow_mul-y c = omega (arith, rows_small c.requires.0 c.args.rectangle c.requires.2 c.requires.3)
-
-pub overflow_add-y : goal.overflow_add-y
-overflow_add-y c = omega (arith, rows_small c.requires.0 c.args.rectangle c.requires.2 c.requires.3)
-
-pub overflow_add-rectangle : goal.overflow_add-rectangle
-overflow_add-rectangle c = omega (arith, rows_small c.requires.0 c.args.rectangle c.requires.2 c.requires.3, c.requires.2, c.requires.0)
-
-pub overflow_mul-half : goal.overflow_mul-half
-overflow_mul-half c = omega (arith, half_small c.requires.0 c.args.rectangle c.requires.2 c.args.y)
-
 pub loop-x-init : goal.loop-x-init
 unfolding number
 loop-x-init c = refl
 
-pub overflow_mul-x : goal.overflow_mul-x
-overflow_mul-x c = omega (arith, columns_small c.requires.0 c.args.rectangle c.requires.2 c.loop-x-test.true)
-
-pub overflow_add-x : goal.overflow_add-x
-overflow_add-x c = omega (arith, columns_small c.requires.0 c.args.rectangle c.requires.2 c.loop-x-test.true)
-
-pub overflow_add-x-in-loop-x : goal.overflow_add-x-in-loop-x
-overflow_add-x-in-loop-x c = omega (arith, columns_small c.requires.0 c.args.rectangle c.requires.2 c.loop-x-test.true, half_small c.requires.0 c.args.rectangle c.requires.2 c.args.y)
-
-pub get-requires : goal.get-requires
-get-requires c = search cell_at
-
 pub loop-x-preserved : goal.loop-x-preserved
 loop-x-preserved c =
     let x = c.loop-x.x in
-    let is = cell_is c.requires.0 c.args.rectangle c.requires.2 x c.args.y c.min.ensures c.min-iy.ensures
-    c.args.words.now c.get.ensures in
-    let cells : ℕ → Bool = λ i. cell (black_at c.args.shape c.args.words.now) c.args.rectangle i c.args.y in
+    let is = cell_is c.args.image.now.limits c.args.rectangle c.requires.0 x c.args.y c.min.ensures c.min-iy.ensures
+    c.args.image.now.words.now c.get.ensures in
+    let cells : ℕ → Bool = λ i. cell (black_at c.args.image.now.shape c.args.image.now.words.now) c.args.rectangle i c.args.y in
     rw c.from.ensures (more cells x (omega arith) c.loop-x.invariant is)
 
 pub returns : goal.returns
 returns c =
     let a = c.args in
     let all : c.loop-x.x ≡ 30 = omega arith in
-    c.loop-x.invariant ∙ ap (number λ i. cell (black_at a.shape a.words.now) a.rectangle i a.y) all
+    c.loop-x.invariant ∙ ap (number λ i. cell (black_at a.image.now.shape a.image.now.words.now) a.rectangle i a.y) all

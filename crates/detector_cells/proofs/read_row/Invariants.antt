@@ -6,4 +6,4 @@ use Rattle.detector_cells.specs.Cells.{cell}
 use Rattle.detector_cells.proofs.read_row.Given as goal
 
 abbrev pub invariant-loop-x : goal.invariant-loop-x
-invariant-loop-x l = l.cells ≡ number (λ i. cell (black_at l.shape l.words) l.rectangle i l.y) l.x
+invariant-loop-x l = l.cells ≡ number (λ i. cell (black_at l.image.shape l.image.words.now) l.rectangle i l.y) l.x

@@ -24,7 +24,7 @@ pub loop-y-init : goal.loop-y-init
 loop-y-init c = search begins
 
 pub loop-y-preserved : goal.loop-y-preserved
-loop-y-preserved c = onward _ c.args.cells.now c.requires.3 c.loop-y.invariant (omega arith) c.read_row.ensures
+loop-y-preserved c = onward _ c.args.cells.now c.requires.1 c.loop-y.invariant (omega arith) c.read_row.ensures
 
 pub returns : goal.returns
-returns c = at_end _ c.args.cells.now c.requires.3 c.loop-y.invariant (omega arith)
+returns c = at_end _ c.args.cells.now c.requires.1 c.loop-y.invariant (omega arith)

@@ -11,4 +11,4 @@ pub record Storing (f : ℕ → ℕ) (cells₀ cells : List ℕ) (y : ℕ) : Typ
   pub sized : length cells ≡ length cells₀
 
 abbrev pub invariant-loop-y : goal.invariant-loop-y
-invariant-loop-y l = Storing (cell_word (black_at l.shape l.words) l.rectangle) l.initial.cells l.cells l.y
+invariant-loop-y l = Storing (cell_word (black_at l.image.shape l.image.words.now) l.rectangle) l.initial.cells l.cells l.y

@@ -1,11 +1,11 @@
 -- `detector_columns::get_column_vector` meets its contract.
-use Rattle.std.proofs.Common.{ℕ, suc, ◌+◌, ◌-◌, ◌^◌, ◌≤◌, ◌<◌, ◌≡◌, refl, Bool, true, false, cond, List, arith, rules, ltb-true, lt-ltb, le-ltb, ltb, length, set, replicate, length-set}
+use Rattle.std.proofs.Common.{ℕ, suc, ◌+◌, ◌-◌, ◌≤◌, ◌<◌, ◌≡◌, refl, Bool, true, false, cond, List, arith, ltb-true, lt-ltb, le-ltb, ltb, set, replicate, length-set}
 use Rattle.reads.proofs.BitsLaws.{get_or_zeros}
 use Rattle.reads.specs.RunsClauses.{Ran}
 use Rattle.reads.proofs.RunsLaws.{ran_done, resumes_start, resumes_step, resumes_then, resumes_else, resumes_end}
-use Rattle.bit_matrix.specs.declared.Shape.{Shape}
-use Rattle.bit_matrix.specs.ShapeClauses.{Image}
-use Rattle.bit_matrix.specs.ShapeLaws.{image_kept}
+use Rattle.bit_matrix.specs.declared.BitMatrix.{BitMatrix}
+use Rattle.bit_matrix.specs.ImageClauses.{RanOn}
+use Rattle.bit_matrix.proofs.ImageLaws.{kept_same, kept_on, onto}
 use Rattle.bit_matrix.specs.Pixels.{pixel}
 use Rattle.detector_widths.specs.Widths.{at}
 use Rattle.detector_widths.specs.Buckets.{bump}
@@ -48,59 +48,58 @@ rows_top Up height row h = both (ltb 0 row)
     both false = refl
 rows_top Down height row h = rw (le-ltb _ _ h)
 
-begins : {words marks : List ℕ} {shape : Shape} {column start : ℕ} {direction : Direction} → Image shape words marks
-    → Looking words marks shape column start direction marks (replicate 6 0) start false 0
+begins : {image : BitMatrix} {column start : ℕ} {direction : Direction}
+    → Looking image column start direction image (replicate 6 0) start false 0
 unfolding column_vector
-begins {shape = shape} {start = start} {direction = direction} image = record {
-  image = image;
+begins {image = image} {start = start} {direction = direction} = record {
+  kept = kept_same;
   six = refl;
   within = omega arith;
-  room = λ k. rw (get_or_zeros 6 k) (omega (arith, rows_le direction shape.height start));
+  room = λ k. rw (get_or_zeros 6 k) (omega (arith, rows_le direction image.shape.height start));
   resumes = resumes_start;
 }
 
-module _ {words marks₀ marks buckets : List ℕ} {shape : Shape} {column start row pointer : ℕ} {direction : Direction} {last : Bool}
-    (looking : Looking words marks₀ shape column start direction marks buckets row last pointer) where
-  no_row : rows_left direction shape.height row ≡ 0 → Ran (column_vector shape column start direction) words marks₀ buckets marks
+module _ {before image : BitMatrix} {buckets : List ℕ} {column start row pointer : ℕ} {direction : Direction} {last : Bool}
+    (looking : Looking before column start direction image buckets row last pointer) where
+  no_row : rows_left direction image.shape.height row ≡ 0 → RanOn (column_vector before.shape column start direction) before buckets image
   unfolding vector_from
-  no_row none = resumes_end (ran_done buckets) (rw none at looking.resumes)
+  no_row none = record { kept = looking.kept; ran = resumes_end (ran_done buckets) (rw (rw looking.kept.shape at none) at looking.resumes) }
 
-  module _ (above : 0 < row) (below : row < shape.height) where
-    one_more : (k : ℕ) → at buckets k + 1 < 2 ^ 32
-    one_more k = omega (arith, rows_next direction shape.height row above below, looking.room k, looking.image.limits.height_most)
+  module _ (above : 0 < row) (below : row < image.shape.height) where
+    one_less : rows_left direction before.shape.height row ≡ suc (rows_left direction before.shape.height (row_after row direction))
+    one_less = rows_next direction before.shape.height row above (rw looking.kept.shape at below)
 
-    fewer : {next : ℕ} → next ≡ row_after row direction → rows_left direction shape.height next < rows_left direction shape.height row
-    fewer e = rw e (omega (arith, rows_next direction shape.height row above below))
+    fewer : {next : ℕ} → next ≡ row_after row direction
+        → rows_left direction before.shape.height next < rows_left direction before.shape.height row
+    fewer e = rw e (omega (arith, one_less))
 
-    module _ {after : List ℕ} {black : Bool} (ran : Ran (pixel shape column row) words marks black after)
+    module _ {after : BitMatrix} {black : Bool} (read : RanOn (pixel image.shape column row) image black after)
         {run : ℕ} (chosen : run ≡ pointer_after pointer black last) where
-      onward : {next : ℕ} → next ≡ row_after row direction → run ≤ 5 → length after ≡ length marks
-          → Looking words marks₀ shape column start direction after (set buckets run (at buckets run + 1)) next black run
+      ran : Ran (pixel before.shape column row) before.words.now image.marks.now black after.marks.now
+      ran = onto (λ shape. pixel shape column row) looking.kept read
+
+      onward : {next : ℕ} → next ≡ row_after row direction → run ≤ 5
+          → Looking before column start direction after (set buckets run (at buckets run + 1)) next black run
       unfolding vector_from bump
-      onward {next} moved most kept = record {
-        image = image_kept looking.image kept;
+      onward {next} moved most = record {
+        kept = kept_on looking.kept read.kept;
         six = simp length-set looking.six;
         within = most;
-        room = rw moved λ k. omega (arith, rows_next direction shape.height row above below, looking.room k, bump_le buckets run k);
-        resumes =
-            rw (moved, chosen)
-            (resumes_else _ _ (rw chosen at (le-ltb _ _ most)) (resumes_step _ ran (rw (rows_next direction shape.height row above below) at looking.resumes)));
+        room = rw moved λ k. omega (arith, one_less, looking.room k, bump_le buckets run k);
+        resumes = rw (moved, chosen) (resumes_else _ _ (rw chosen at (le-ltb _ _ most)) (resumes_step _ ran (rw one_less at looking.resumes)));
       }
 
-      seventh : 5 < run → Ran (column_vector shape column start direction) words marks₀ buckets after
+      seventh : 5 < run → RanOn (column_vector before.shape column start direction) before buckets after
       unfolding vector_from
-      seventh past =
-          resumes_end (ran_done buckets)
-          (resumes_then _ _ (rw chosen at (lt-ltb _ _ past)) (resumes_step _ ran (rw (rows_next direction shape.height row above below) at looking.resumes)))
+      seventh past = record {
+        kept = kept_on looking.kept read.kept;
+        ran =
+            resumes_end (ran_done buckets)
+            (resumes_then _ _ (rw chosen at (lt-ltb _ _ past)) (resumes_step _ ran (rw one_less at looking.resumes)));
+      }
 
 pub loop-row-init : goal.loop-row-init
-loop-row-init c = search begins
-
-pub overflow_add-buckets : goal.overflow_add-buckets
-overflow_add-buckets c = record { fits = search (one_more, ltb-true, rules) }
-
-pub next-row-requires : goal.next-row-requires
-next-row-requires c = omega (arith, ltb-true)
+loop-row-init c = begins
 
 pub loop-row-smaller : goal.loop-row-smaller
 loop-row-smaller c = search (fewer, ltb-true)
@@ -108,8 +107,8 @@ loop-row-smaller c = search (fewer, ltb-true)
 pub loop-row-preserved : goal.loop-row-preserved
 loop-row-preserved c = search onward
 
-pub returns-else-row-shape : goal.returns-else-row-shape
-returns-else-row-shape c = search (no_row, rows_top)
+pub returns-else-row-image : goal.returns-else-row-image
+returns-else-row-image c = search (no_row, rows_top)
 
 pub returns-after-loop-row : goal.returns-after-loop-row
 returns-after-loop-row c = search (no_row, rows_bottom)

@@ -54,9 +54,6 @@ module _ (widths : List Width) {long : ℕ} (most : long ≡ longest widths) (lo
   minor_fits : {short : ℕ} → short ≡ shortest long widths → short / 2 * (short / 2) < 2 ^ 32
   minor_fits least = omega (arith, major_fits, no_less widths most least)
 
-pub overflow_mul-major : goal.overflow_mul-major
-overflow_mul-major c = search major_fits
-
 pub overflow_mul-minor : goal.overflow_mul-minor
 overflow_mul-minor c = search minor_fits
 

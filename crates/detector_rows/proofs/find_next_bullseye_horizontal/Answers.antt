@@ -1,5 +1,5 @@
 -- `detector_rows::find_next_bullseye_horizontal` meets its contract: the columns of the white and of the sweep are marked at once.
-use Rattle.std.proofs.Common.{ℕ, ◌+◌, ◌-◌, ◌*◌, max, ◌≡◌, ◌∙◌, List, arith, Option}
+use Rattle.std.proofs.Common.{ℕ, refl, ◌+◌, ◌-◌, ◌*◌, max, ◌≡◌, ◌∙◌, List, arith, Option}
 use Rattle.reads.specs.Bits.{mark_all, range}
 use Rattle.reads.proofs.BitsLaws.{length_mark_all}
 use Rattle.reads.specs.RunsClauses.{Ran}
@@ -36,20 +36,12 @@ module _ (shape : Shape) (row start : ℕ) (words m₀ : List ℕ) {m₁ : List 
       (ran_bind _ (ran_skip words m₀ shape (shape.width - 6 - start) start row image.stored image.sized (rw reach at skipped))
       (swept.ran (mark_all m₀ (range (row * shape.row_words * 64 + start) (from + 1 - start))) (length_mark_all m₀ _ ∙ image.sized)))
 
-pub mark_range-requires : goal.mark_range-requires
-mark_range-requires c =
-    let skipped = c.skip_white-from in
-    omega (
-      arith,
-      skipped.ensures.after,
-      skipped.ensures.within,
-      c.sweep-found.ensures.within,
-      c.read_to.ensures,
-      c.max-to.ensures,
-      c.first_word.ensures.1,
-    )
-
 pub returns : goal.returns
 returns c =
-    whole _ _ _ _ _ c.requires c.skip_white-from.ensures c.sweep-found.ensures
-    c.read_to.ensures c.max-to.ensures c.first_word.ensures.0 c.mark_range.ensures
+    let same = c.unmarked-unmarked.ensures in
+    record {
+      kept = record { words = refl; shape = refl; lent = refl };
+      ran =
+          whole _ _ _ _ _ c.args.image.now.is_image (rw (same.words, same.shape) at c.skip_white-from.ensures)
+          (rw (same.words, same.shape) at c.sweep-found.ensures) c.read_to.ensures c.max-to.ensures c.first_word.ensures.0 c.mark_range.ensures;
+    }

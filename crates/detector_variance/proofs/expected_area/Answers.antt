@@ -1,14 +1,9 @@
 -- `detector_variance::expected_area` meets its contract.
-use Rattle.std.proofs.Common.{◌/◌, ◌≤◌, ap, mul-le-mul, arith, Float}
+use Rattle.std.proofs.Common.{ap, Float}
 use Rattle.std.specs.Float.Ieee.{mul, of_bits}
 use Rattle.std.specs.Float.{binary32}
 use Rattle.detector_variance.specs.Variance.{expected_area}
 use Rattle.detector_variance.proofs.expected_area.Goals as goal
-
-pub overflow_mul-n : goal.overflow_mul-n
-overflow_mul-n c =
-    let small : c.args.n / 2 ≤ 65535 = omega arith in
-    omega (arith, mul-le-mul small small)
 
 pub returns : goal.returns
 unfolding expected_area

@@ -1,13 +1,9 @@
 -- `detector_verdict::verdict` meets its contract: one lemma for each answer.
-use Rattle.std.proofs.Common.{rules}
-use Rattle.detector_verdict.proofs.Judging.{kept_requires, too_many, none_found, set_aside, some_kept}
+use Rattle.detector_verdict.proofs.Judging.{too_many, none_found, set_aside, some_kept}
 use Rattle.detector_verdict.proofs.verdict.Goals as goal
 
 pub returns-then-found-capacity : goal.returns-then-found-capacity
 returns-then-found-capacity c = λ candidates holds. search too_many
-
-pub keep_and_rank-kept-requires : goal.keep_and_rank-kept-requires
-keep_and_rank-kept-requires c = search (kept_requires, rules)
 
 pub returns-then-found-eq0 : goal.returns-then-found-eq0
 returns-then-found-eq0 c = λ candidates holds. search none_found

@@ -1,24 +1,17 @@
 -- `detector_walks::along` meets its contract: the numbers are listed one after another.
 use Rattle.std.proofs.Common.{ℕ, ◌+◌, ◌%◌, ◌^◌, ◌≤◌, ◌<◌, Bool, true, false, List, inl, inr, ◌≡◌, refl, sym, ap, ◌∙◌, eq-or-lt_of_le, mod-lt, mod-eq_of_lt, arith, rules, T, lit<, pos, Float, get_or, set, length-set, replicate, get_or-set_same}
 use borrow.Author.Rules.{read_below}
-use Rattle.std.specs.Float.Ieee.{add, mul, lt, in_float}
+use Rattle.std.specs.Float.Ieee.{add, mul, lt}
 use Rattle.std.specs.Float.{fin, binary32}
 use Rattle.ieee.specs.Sign.{abs}
 use Rattle.ieee.specs.BetweenLaws.{Between}
 use Rattle.rxing_result_point.specs.Points.{real, past}
 use Rattle.detector_walks.specs.WalksClauses.{Along, cell_at, column}
 use Rattle.detector_walks.proofs.Level.{size_below}
-use Rattle.detector_walks.proofs.Looks.{exact}
 use Rattle.detector_walks.proofs.along.Goals as goal
-
-exact_place : {n : ℕ} → n < 2 ^ 11 → T (in_float binary32 (pos n))
-exact_place {n} h = exact n (omega arith)
 
 low : (n : ℕ) → n % 2 ^ 21 < 2 ^ 21
 low n = mod-lt n (lit< tt)
-
-exact_column : (n : ℕ) → T (in_float binary32 (pos (n % 2 ^ 21)))
-exact_column n = exact (n % 2 ^ 21) (omega (arith, low n))
 
 small : (factor : Float) (c place n : ℕ) → Between 0 1 (abs factor) → c < 2 ^ 11 → place < 2 ^ 11
     → T (lt (abs (add binary32 (mul binary32 factor (past c (n % 2 ^ 21))) (real place))) (fin false 1 (pos 22)))
@@ -52,18 +45,6 @@ module _ {left : Bool} {factor : Float} {c place x i : ℕ} {cells : List ℕ} (
 
   over : 32 ≤ i → Along left factor c place x 32 cells
   over h = record { all = along.all; at = λ j low. along.at j (omega arith) }
-
-pub int_to_float-cx : goal.int_to_float-cx
-int_to_float-cx g c = search exact_place
-
-pub int_to_float-p : goal.int_to_float-p
-int_to_float-p g c = search exact_place
-
-pub loop-i-init : goal.loop-i-init
-loop-i-init g c = search begins
-
-pub int_to_float-u : goal.int_to_float-u
-int_to_float-u g c = search exact_column
 
 pub abs_small_f32_to_u32-requires : goal.abs_small_f32_to_u32-requires
 abs_small_f32_to_u32-requires g c = search small

@@ -4,4 +4,4 @@ use Rattle.detector_walks.proofs.Joins.{Going}
 use Rattle.detector_walks.proofs.step.Given as goal
 
 abbrev pub invariant-loop-i : goal.invariant-loop-i
-invariant-loop-i g l = Going (not (eqb g.row.LEFT 0)) l.words l.shape l.center l.angle 16 l.x l.initial.marks l.marks l.i
+invariant-loop-i g l = Going (not (eqb g.row.LEFT 0)) l.initial.image l.ray.center l.ray.angle 16 l.x l.image l.i

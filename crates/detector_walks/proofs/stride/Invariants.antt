@@ -4,4 +4,4 @@ use Rattle.detector_walks.proofs.Joins.{Going}
 use Rattle.detector_walks.proofs.stride.Given as goal
 
 abbrev pub invariant-loop-i : goal.invariant-loop-i
-invariant-loop-i g l = Going (not (eqb g.row.LEFT 0)) l.words l.shape l.fn.center l.fn.angle 32 l.x l.initial.marks l.marks l.i
+invariant-loop-i g l = Going (not (eqb g.row.LEFT 0)) l.initial.image l.fn.ray.center l.fn.ray.angle 32 l.x l.image l.i

@@ -1,9 +1,8 @@
 -- `find::put_lines` meets its contract: the parts that are lent for the words and the marks have the image's length, and no more records are
 -- kept than 400.
 use Rattle.std.proofs.Common.{ℕ, zero, suc, ◌≤◌, arith, Bool, false, List, ◌∷◌, ◌≡◌, refl, ap, ◌∙◌, length, take, replicate, rules}
-use Rattle.crop.specs.CropLaws.{checked_rows}
 use Rattle.detector.specs.Detector.{run, FileRun, filed, file_run}
-use Rattle.detector.specs.DetectorLaws.{file_few, zeros_lent}
+use Rattle.detector.specs.DetectorLaws.{file_few}
 use Rattle.detector.specs.declared.Report.{Report}
 use Rattle.text.specs.Text.{Puts}
 use Rattle.text.specs.TextLaws.{puts_as}
@@ -33,24 +32,6 @@ puts_printed file lent size zeros searched puts =
 
 zeros : List ℕ
 zeros = replicate 8000 0
-
-pub lent_words-size-requires : goal.lent_words-size-requires
-lent_words-size-requires c = search checked_rows
-
-pub slice_bounds-words-end : goal.slice_bounds-words-end
-slice_bounds-words-end c = (c.lent_words-size.ensures _ c.check_file-checked.ensures).1
-
-pub slice_bounds-search_checked-end : goal.slice_bounds-search_checked-end
-unfolding zeros
-slice_bounds-search_checked-end c = zeros_lent 8000 _ (c.lent_words-size.ensures _ c.check_file-checked.ensures).1
-
-pub slice_bounds-marks-end : goal.slice_bounds-marks-end
-slice_bounds-marks-end c = (c.lent_words-size.ensures _ c.check_file-checked.ensures).1
-
-pub slice_bounds-search_checked-end-3 : goal.slice_bounds-search_checked-end-3
-unfolding zeros
-slice_bounds-search_checked-end-3 c = zeros_lent 8000 _
-    (c.lent_words-size.ensures _ c.check_file-checked.ensures).1
 
 pub put_run-requires : goal.put_run-requires
 put_run-requires c =

@@ -1,10 +1,7 @@
 -- `text_lines::put_corners` meets its contract.
 use Rattle.std.proofs.Common.{arith}
-use Rattle.text_lines.proofs.Corners.{corners_begin, corners_room, corners_long, corners_more, corners_end, corners_grown}
+use Rattle.text_lines.proofs.Corners.{corners_room, corners_long, corners_more, corners_end, corners_grown}
 use Rattle.text_lines.proofs.put_corners.Goals as goal
-
-pub loop-corner-init : goal.loop-corner-init
-loop-corner-init c = corners_begin (omega (arith, c.requires))
 
 pub put_next_hex-requires : goal.put_next_hex-requires
 put_next_hex-requires c = corners_room (omega (arith, c.loop-corner-test.true, corners_long c.args.fields.now c.told-fields)) c.requires c.loop-corner.invariant

@@ -35,9 +35,6 @@ ended {starts} {buckets} {k} {end} {n} {v} many ten counted is =
     is ∙ ap (λ (j : ℕ). end - get_or starts (j % 16) 0) here ∙ sym (count_now starts k end 10 (omega arith)) in
     all (onward (rw ten at counted) (omega arith) last) refl
 
-pub loop-i-init : goal.loop-i-init
-loop-i-init c = begins refl
-
 pub loop-i-preserved : goal.loop-i-preserved
 loop-i-preserved c =
     let over = count_old c.args.self.now.starts c.args.self.now.present c.args.end c.loop-i.i (omega arith) in

@@ -1,19 +1,13 @@
 -- `step_exports::boxes::step_find_width_at_degree` meets its contract.
 use Rattle.std.proofs.Common.{rules, refl}
-use Rattle.crop_sizes.specs.SizesLaws.{rows_of}
-use Rattle.step_exports.proofs.Guarding.{refuse_test, lent_as, lent_passed, lent_passed_as, answer}
+use Rattle.step_exports.proofs.Guarding.{lent_passed_as, answer}
 use Rattle.step_exports.proofs.Running.{walked_ran}
 use Rattle.step_exports.proofs.boxes.step_find_width_at_degree.Goals as goal
 
-pub is_lent-requires : goal.is_lent-requires
-is_lent-requires c = search rows_of
-
-pub returns-then-not-is_lent : goal.returns-then-not-is_lent
-returns-then-not-is_lent c = refuse_test (lent_as _ _ (search rules) c.is_lent.ensures) c.if-not-is_lent.true (λ f. f) (refl, refl, refl)
-
-pub find_width_at_degree-width-requires : goal.find_width_at_degree-width-requires
-find_width_at_degree-width-requires c =
-    lent_passed c.is_lent.ensures c.if-not-is_lent.false
-
 pub returns : goal.returns
-returns c = answer (search lent_passed_as) (refl, search walked_ran)
+returns c =
+    answer (search lent_passed_as) (
+      refl,
+      walked_ran _ _ c.shape_of-shape.ensures _ _ c.find_width_at_degree-width.ensures.ran (search rules) c.f32_to_bits_with_nan.ensures
+          c.f32_to_bits_with_nan-2.ensures c.f32_to_bits_with_nan-3.ensures c.f32_to_bits_with_nan-4.ensures,
+    )

@@ -1,19 +1,8 @@
 -- `step_exports::sweep::step_count_row` meets its contract.
-use Rattle.std.proofs.Common.{rules, refl}
-use Rattle.crop_sizes.specs.SizesLaws.{rows_of}
-use Rattle.step_exports.proofs.Guarding.{refuse_test, passed_test, image_as, image_passed_as, answer}
+use Rattle.std.proofs.Common.{rules}
+use Rattle.step_exports.proofs.Guarding.{image_passed_as, answer}
 use Rattle.step_exports.proofs.Running.{counted}
 use Rattle.step_exports.proofs.sweep.step_count_row.Goals as goal
 
-pub is_image-requires : goal.is_image-requires
-is_image-requires c = search rows_of
-
-pub returns-then-not-is_image : goal.returns-then-not-is_image
-returns-then-not-is_image c = refuse_test (image_as _ _ (search rules) c.is_image.ensures) c.if-not-is_image.true (λ f. f) (refl, refl)
-
-pub count_row-requires : goal.count_row-requires
-count_row-requires c =
-    passed_test c.is_image.ensures c.if-not-is_image.false
-
 pub returns : goal.returns
-returns c = answer (search image_passed_as) (search counted)
+returns c = answer (search image_passed_as) (counted _ _ c.shape_of-shape.ensures _ _ c.count_row.ensures.ran (search rules))
