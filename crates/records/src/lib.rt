@@ -57,12 +57,14 @@ pub fn load(records: &[u32], i: usize) -> [u32; 40]
     fields
 }
 
-// Record i is replaced.
+// Record i is replaced. A for: `copy_from_slice` into a lent slice calls `memmove`, which a host of the archive need not have.
 pub fn store(records: &mut [u32], i: usize, fields: &[u32; 40])
     requires { (40 * i + 40 ≤ length records.old) × (length fields.now ≡ 40) }
     ensures { records.new ≡ put records.old i fields.now }
 {
-    records[40 * i..40 * i + 40].copy_from_slice(fields);
+    for k in 0..40 {
+        records[40 * i + k] = fields[k];
+    }
 }
 
 // Record i, over record j.
@@ -70,7 +72,11 @@ pub fn copy(records: &mut [u32], i: usize, j: usize)
     requires { (40 * i + 40 ≤ length records.old) × (40 * j + 40 ≤ length records.old) }
     ensures { records.new ≡ put records.old j (get records.old i) }
 {
-    records.copy_within(40 * i..40 * i + 40, 40 * j);
+    if i == j {
+        return;
+    }
+    let fields = load(records, i);
+    store(records, j, &fields);
 }
 
 // Records i and j change places. `as_chunks_mut` would give `swap` records to exchange, but no contract says what the slice is then.

@@ -1,8 +1,15 @@
--- `records::store` meets its contract: the words, between those before and after.
-use Rattle.std.proofs.Common.{ap, ◌∙◌}
+-- `records::store` meets its contract: a copy of 40 words.
+use Rattle.std.proofs.Common.{rules}
 use Rattle.records.specs.RecordsClauses.{put}
-use Rattle.records.proofs.Parts.{part_written}
+use Rattle.records.specs.CopiesLaws.{begins, onward, over}
 use Rattle.records.proofs.store.Goals as goal
 
+pub loop-k-init : goal.loop-k-init
+loop-k-init c = search (begins, rules)
+
+pub loop-k-preserved : goal.loop-k-preserved
+loop-k-preserved c = search (onward, rules)
+
 pub returns : goal.returns
-returns c = part_written _ _ _ ∙ ap (put c.args.records.now c.args.i) c.copy_from_slice.ensures.after
+unfolding put
+returns c = search over
