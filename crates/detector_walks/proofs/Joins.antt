@@ -89,13 +89,13 @@ module _ (words : List ℕ) (test : ℕ → Reads Bool) (n : ℕ) {marks₀ mark
       let same : 0 + n ≡ n = omega arith in
       rw same at (steps_over words test n 0 stepping h)
 
--- ---- the loop of n steps from column x on, to the left or to the right: i of them are taken
-module _ (left : Bool) (image : BitMatrix) (center : PointU) (angle : Angle) (n x : ℕ) where
+-- ---- the loop of n steps from column x on, to the left or to the right, by a test of each step: i of them are taken
+module _ (left : Bool) (image : BitMatrix) (test : Shape → ℕ → Reads Bool) (n x : ℕ) where
   abbrev back_test : ℕ → Reads Bool
-  back_test = white_back image.shape center angle x
+  back_test = test image.shape
 
   abbrev on_test : ℕ → Reads Bool
-  on_test y = white_point image.shape (walk_point center angle y)
+  on_test y = test image.shape (y - x)
 
   pub record Going (now : BitMatrix) (i : ℕ) : Type 0 where
     pub few : i ≤ n
@@ -103,41 +103,58 @@ module _ (left : Bool) (image : BitMatrix) (center : PointU) (angle : Angle) (n 
     pub back : left ≡ true → Stepping image.words.now back_test n 0 image.marks.now now.marks.now i
     pub on : left ≡ false → Stepping image.words.now on_test n x image.marks.now now.marks.now i
 
-  module _ {now : BitMatrix} {i : ℕ} (going : Going now i) where
-    module _ {white : Bool} {after : BitMatrix} (more : i < n) (run : RanOn (white_point now.shape (walk_point center angle (column left x i))) now white after)
-      where
-        ran : Ran (on_test (column left x i)) image.words.now now.marks.now white after.marks.now
-        ran = onto (λ (shape : Shape). white_point shape (walk_point center angle (column left x i))) going.kept run
+  -- where the test of a step is that of the point in its column, the steps are those of the walk
+  module _ (center : PointU) (angle : Angle)
+      (same : (i : ℕ) → i < n → test image.shape i ≡ white_point image.shape (walk_point center angle (column left x i))) where
+    walked_back : left ≡ true → steps back_test n 0 ≡ steps (white_back image.shape center angle x) n 0
+    walked_back e =
+        same_steps back_test (white_back image.shape center angle x) n 0
+        (λ i h. let here : 0 + i ≡ i = omega arith in rw here (rw e at same i h))
 
-        ran_back : left ≡ true → Ran (back_test i) image.words.now now.marks.now white after.marks.now
-        ran_back e = rw e at ran
+    walked_on : left ≡ false → steps on_test n x ≡ right_from image.shape center angle n x
+    walked_on e =
+        same_steps on_test (λ y. white_point image.shape (walk_point center angle y)) n x
+        (λ i h. let here : x + i - x ≡ i = omega arith in rw here (rw e at same i h))
+        ∙ right_steps image.shape center angle n x
 
-        ran_on : left ≡ false → Ran (on_test (x + i)) image.words.now now.marks.now white after.marks.now
-        ran_on e = rw e at ran
-
-        pub going_on : white ≡ true → Going after (i + 1)
-        going_on e = record {
-          few = omega arith;
-          kept = kept_on going.kept run.kept;
-          back = λ f. count_on image.words.now back_test n (going.back f) more (ran_back f) e;
-          on = λ f. steps_on image.words.now on_test n x (going.on f) more (ran_on f) e;
-        }
-
-        pub going_stop : white ≡ false → Taken left image.shape center angle n x image.words.now image.marks.now i after.marks.now
-        going_stop e = record {
-          back = λ f. count_stop image.words.now back_test n (going.back f) more (ran_back f) e;
-          on = λ f.
-              subst (λ (p : Reads ℕ). Ran p image.words.now image.marks.now (x + i) after.marks.now) (right_steps image.shape center angle n x)
-              (steps_stop image.words.now on_test n x (going.on f) more (ran_on f) e);
-        }
-
-    pub going_over : n ≤ i → Taken left image.shape center angle n x image.words.now image.marks.now n now.marks.now
-    going_over h = record {
-      back = λ f. count_over image.words.now back_test n (going.back f) h;
-      on = λ f.
-          subst (λ (p : Reads ℕ). Ran p image.words.now image.marks.now (x + n) now.marks.now) (right_steps image.shape center angle n x)
-          (steps_over image.words.now on_test n x (going.on f) h);
+    taken : {k : ℕ} {marks : List ℕ} → (left ≡ true → Ran (steps back_test n 0) image.words.now image.marks.now k marks)
+        → (left ≡ false → Ran (steps on_test n x) image.words.now image.marks.now (x + k) marks)
+        → Taken left image.shape center angle n x image.words.now image.marks.now k marks
+    taken {k} {marks} back on = record {
+      back = λ f. subst (λ (p : Reads ℕ). Ran p image.words.now image.marks.now k marks) (walked_back f) (back f);
+      on = λ f. subst (λ (p : Reads ℕ). Ran p image.words.now image.marks.now (x + k) marks) (walked_on f) (on f);
     }
+
+  module _ {now : BitMatrix} {i : ℕ} (going : Going now i) where
+    module _ {white : Bool} {after : BitMatrix} (more : i < n) (run : RanOn (test now.shape i) now white after) where
+      ran : Ran (back_test i) image.words.now now.marks.now white after.marks.now
+      ran = onto (λ (shape : Shape). test shape i) going.kept run
+
+      ran_on : Ran (on_test (x + i)) image.words.now now.marks.now white after.marks.now
+      ran_on =
+          let here : x + i - x ≡ i = omega arith in
+          rw here ran
+
+      pub going_on : white ≡ true → Going after (i + 1)
+      going_on e = record {
+        few = omega arith;
+        kept = kept_on going.kept run.kept;
+        back = λ f. count_on image.words.now back_test n (going.back f) more ran e;
+        on = λ f. steps_on image.words.now on_test n x (going.on f) more ran_on e;
+      }
+
+      pub going_stop : {center : PointU} {angle : Angle}
+          → ((i : ℕ) → i < n → test image.shape i ≡ white_point image.shape (walk_point center angle (column left x i))) → white ≡ false
+          → Taken left image.shape center angle n x image.words.now image.marks.now i after.marks.now
+      going_stop same e =
+          taken _ _ same (λ f. count_stop image.words.now back_test n (going.back f) more ran e)
+          (λ f. steps_stop image.words.now on_test n x (going.on f) more ran_on e)
+
+    pub going_over : {center : PointU} {angle : Angle}
+        → ((i : ℕ) → i < n → test image.shape i ≡ white_point image.shape (walk_point center angle (column left x i))) → n ≤ i
+        → Taken left image.shape center angle n x image.words.now image.marks.now n now.marks.now
+    going_over same h =
+        taken _ _ same (λ f. count_over image.words.now back_test n (going.back f) h) (λ f. steps_over image.words.now on_test n x (going.on f) h)
 
 -- ---- steps joined to the walks
 module _ (words : List ℕ) (shape : Shape) (center : PointU) (angle : Angle) where
