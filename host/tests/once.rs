@@ -16,6 +16,11 @@ const TEST_DEGREE: &str = "detector_colours::test_degree";
 const PLAIN_BOUNDARY: &str = "detector_boundary::plain_boundary";
 const SCALED_BOUNDARY: &str = "detector_boundary::scaled_boundary";
 const ANGLE: &str = "sines::Sines::angle";
+/// What a `?` on an option calls.
+const ASKED: [&str; 2] = [
+    "core::option::OptionTry::branch",
+    "core::option::OptionFromResidualNoValue::from_residual",
+];
 
 /// One call, by the functions' names, and how many loops of the caller it stands in.
 #[derive(Debug, PartialEq)]
@@ -110,15 +115,17 @@ fn quoted<'a>(text: &mut &'a str) -> &'a str {
 }
 
 /// The calls in a library's MIR: a list of functions, each with its name and fields. Its body is a list of steps, each before those that stand in it: of two
-/// in a sequence, of one in a loop or a block, of both sides of a choice, of each case of a switch and of its rest.
+/// in a sequence, of one in a loop or a block, of both sides of a choice, of each case of a switch and of its rest. A closure is a function of its own there;
+/// its calls are those of the function that it stands in, in one loop more, as it may be called again.
 fn calls(mir: &str) -> Vec<Call> {
     let mut found = Vec::new();
     for function in Json::read(&mut { mir }).list() {
         let [Json::Text(from), fields] = function.list() else {
             panic!("no function: {function:?}")
         };
+        let outer = holder(from);
         // the loops of each step that is still to come
-        let mut open = vec![0];
+        let mut open = vec![usize::from(outer != *from)];
         for step in fields.field("body").expect("it has a body").list() {
             let loops = open.pop().expect("the body goes on");
             let (inside, deeper) = match step {
@@ -130,13 +137,25 @@ fn calls(mir: &str) -> Vec<Call> {
             };
             open.extend(vec![loops + deeper; inside]);
             if let Some(to) = step.field("Call").and_then(callee) {
-                let (from, to) = (String::from(*from), to.to_owned());
+                let (from, to) = (outer.clone(), holder(to));
                 found.push(Call { from, to, loops });
             }
         }
         assert!(open.is_empty(), "{from}: its body ends early");
     }
     found
+}
+
+/// The function that a closure stands in, by its name: `a::fn::b::map`, or with what it is a value of `a::fn::b::map+FnMut::call_mut`, stands in `a::b`, and
+/// so do those in it, as `a::fn::b::fn::map::any`. Any other function's own name.
+fn holder(name: &str) -> String {
+    let Some((module, inside)) = name.split_once("::fn::") else {
+        return name.to_owned();
+    };
+    let deeper = inside.split_once("::fn::").map(|(function, _)| function);
+    let (path, _) = inside.split_once('+').unwrap_or((inside, ""));
+    let (function, _) = path.rsplit_once("::").expect("a closure has a name");
+    format!("{module}::{}", deeper.unwrap_or(function))
 }
 
 /// How many steps stand in a switch.
@@ -192,7 +211,7 @@ fn compiled() -> Vec<Call> {
 fn called<'a>(calls: &'a [Call], from: &str) -> Vec<&'a str> {
     let from = calls.iter().filter(|call| call.from == from);
     let to = from.map(|call| call.to.as_str());
-    to.filter(|to| !to.starts_with("core::option::")).collect()
+    to.filter(|to| !ASKED.contains(to)).collect()
 }
 
 /// Callers of a function, each with its loops.
@@ -292,6 +311,30 @@ fn a_call_in_a_loop_is_told_from_one_before_it() {
     assert_eq!(calls, expected);
     assert_eq!(reached(&calls, "a"), ["a", "b::c", "d", "e"]);
     assert_eq!(callers(&calls, "d"), [("a", 1)]);
+}
+
+#[test]
+fn a_call_in_a_closure_is_of_the_function_it_stands_in() {
+    let function = |name: &str, calls: &[&str]| {
+        let call = |to: &&str| format!(r#""Seq",{{"Call":[{{"Fn":["{to}",{{}}]}},[],{{}}]}},"#);
+        let steps: String = calls.iter().map(call).collect();
+        format!(r#"["{name}",{{"body":[{steps}"Return"]}}]"#)
+    };
+    let functions = [
+        function(
+            "a::b",
+            &["c", ASKED[0], "core::option::Option::map", ASKED[1]],
+        ),
+        function("a::fn::b::map", &["d"]),
+        function("a::fn::b::map+FnOnce::call_once", &["a::fn::b::map"]),
+    ];
+    let calls = calls(&format!("[{}]", functions.join(",")));
+    let own = ["c", "core::option::Option::map", "d", "a::b"];
+    assert_eq!(called(&calls, "a::b"), own);
+    assert_eq!(callers(&calls, "d"), [("a::b", 1)]);
+    assert!(reached(&calls, "a::b").contains(&"d"));
+    assert_eq!(holder("a::fn::B::c::any+2+FnMut"), "a::B::c");
+    assert_eq!(holder("a::fn::b::fn::map::any"), "a::b");
 }
 
 #[test]
