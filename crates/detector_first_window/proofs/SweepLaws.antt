@@ -47,7 +47,7 @@ closing_many ring k e h =
     last_black (valid_widths (buckets_of ring k e)) (colour k)
     ∙ ap (λ (t : Bool). cond t false (colour k && valid_widths (buckets_of ring k e))) (sym (le-ltb k 10 h))
 
-closing_full : (ring : List ℕ) (k e : ℕ) → closing ring k e ≡ true → 10 ≤ k
+pub closing_full : (ring : List ℕ) (k e : ℕ) → closing ring k e ≡ true → 10 ≤ k
 closing_full ring k e shut = go (dec_lt k 10)
   where
     go : Dec (k < 10) → 10 ≤ k

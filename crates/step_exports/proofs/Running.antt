@@ -29,7 +29,7 @@ use Rattle.step_exports.proofs.Guarding.{pixel_words_lem}
 pub room : {capacity most : ℕ} {records : List ℕ} → most ≡ capacity_of (length records) → capacity ≤ most → Room capacity records 0
 room same fits = record { few = omega arith; most = omega arith; held = omega arith }
 
-ran_through : {A B : Type 0} (f : A → B) (p : Reads A) {words m₀ m₁ : List ℕ} {a : A} {r : B} → Ran p words m₀ a m₁ → r ≡ f a
+pub ran_through : {A B : Type 0} (f : A → B) (p : Reads A) {words m₀ m₁ : List ℕ} {a : A} {r : B} → Ran p words m₀ a m₁ → r ≡ f a
     → Ran (through f p) words m₀ r m₁
 unfolding through
 ran_through f p ran e = ran_bind _ ran (ran_is e)
