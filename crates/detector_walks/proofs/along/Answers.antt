@@ -50,7 +50,8 @@ pub abs_small_f32_to_u32-requires : goal.abs_small_f32_to_u32-requires
 abs_small_f32_to_u32-requires g c = search small
 
 pub loop-i-preserved : goal.loop-i-preserved
-loop-i-preserved g c = search (onward, rules)
+loop-i-preserved g c =
+    onward c.loop-i.invariant c.loop-i-test.true c.requires.4 (omega (arith, c.column-at.ensures)) c.abs_small_f32_to_u32.ensures
 
 pub returns : goal.returns
 returns g c = search (over, rules)
