@@ -4,7 +4,7 @@
 ghost use Rattle.std.specs.Prelude.{◌≡◌, ◌<◌, length};
 ghost use Rattle.bit_matrix.specs.ShapeClauses.{Limits};
 ghost use Rattle.crop_sizes.specs.Sizes.{file_length};
-ghost use Rattle.crop_padding.specs.Padding.{file_row, file_padded, words_row, words_padded};
+ghost use Rattle.crop_padding.specs.Padding.{file_padded, words_row, words_padded};
 
 use bit_matrix::{Shape, Unmarked};
 
@@ -17,22 +17,22 @@ pub struct CropFile<'a> {
     pub ghost sized: { length bytes.now ≡ file_length shape.width shape.height },
 }
 
-// Whether a padding bit of row y of a file is 1: those are the lowest of the row's last byte.
-fn is_file_row_padded(file: &CropFile, y: usize) -> bool
-    requires { y < file.now.shape.height }
-    ensures { result ≡ file_row file.now.bytes.now file.now.shape.width y }
+// Whether a padding bit of a file's rows is 1: those are the lowest of a row's last byte.
+// With the place of that byte beside the loop: `any` over a test of row y took two thirds more time.
+pub fn file_padded(file: &CropFile) -> bool
+    ensures { result ≡ file_padded file.now.bytes.now file.now.shape.width file.now.shape.height }
 {
     let width = file.shape.width as usize;
     let row = (width + 7) / 8;
     let unit = 1u8 << (row * 8 - width);
-    file.bytes[4 + (y * row + (row - 1))] % unit != 0
-}
-
-// Whether a padding bit of a file's rows is 1.
-pub fn file_padded(file: &CropFile) -> bool
-    ensures { result ≡ file_padded file.now.bytes.now file.now.shape.width file.now.shape.height }
-{
-    (0..file.shape.height as usize).any(|y| is_file_row_padded(file, y))
+    let mut last = 3 + row;
+    for _y in 0..file.shape.height {
+        if file.bytes[last] % unit != 0 {
+            return true;
+        }
+        last += row;
+    }
+    false
 }
 
 // Whether a padding bit of row y of an image is 1: those are the highest of the row's last word. Apart from a file's: a shift of a word, and there the

@@ -1,8 +1,9 @@
 -- Bytes put together as one word. Assumes nothing.
-use Rattle.std.specs.Prelude.{ℕ, zero, suc, ◌+◌, ◌*◌, ◌/◌, ◌%◌, ◌^◌, ◌≤◌, ◌<◌, List, ◌≡◌, refl, bit_or, get_or}
+use Rattle.std.specs.Prelude.{ℕ, zero, suc, ◌+◌, ◌*◌, ◌/◌, ◌%◌, ◌^◌, ◌≤◌, ◌<◌, List, ◌≡◌, refl, bit_or, length, get_or, take, drop}
 use Rattle.std.specs.Int.{sum_through, byte_worth}
-use Rattle.std.proofs.Common.{arith, sym, ap, ap₂, ◌∙◌, add_comm, pow-add, shl_exact}
+use Rattle.std.proofs.Common.{arith, sym, ap, ap₂, ◌∙◌, add_comm, pow-add, shl_exact, get_or-take}
 use Rattle.std.proofs.Math.Nat.{pow-suc}
+use Rattle.std.proofs.lemmas.List.{get_or-drop}
 use lib.Bits.{or_shifted_r}
 use Rattle.reads.specs.Bits.{test_bit}
 use Rattle.crop_padding.specs.Below.{number}
@@ -36,15 +37,6 @@ module _ (file : List ℕ) (from : ℕ) where
       in
       ap (bit_or low) (shl_exact {a = high} m (8 * c) 64 small (omega arith)) ∙ or_shifted_r high (8 * c) low below
       ∙ ap₂ (λ (a b : ℕ). a * 2 ^ (8 * c) + b) (high_is ∙ bits) low_is ∙ sym (number_add (byte_bit file from) (8 * c) m)
-
--- one byte more
-pub byte_more : (file : List ℕ) (k : ℕ) {word : ℕ} → k < 8 → get_or file k 0 < 2 ^ 8 → word ≡ number (byte_bit file 0) (8 * k)
-    → bit_or word (get_or file k 0 * 2 ^ (8 * k) % 2 ^ 64) ≡ number (byte_bit file 0) (8 * (k + 1))
-byte_more file k h small so_far =
-    let more : 8 * k + 8 ≡ 8 * (k + 1) = omega arith in
-    let from : 0 + k ≡ k = omega arith in
-    joined file 0 k 8 (omega arith) so_far (ap (λ (n : ℕ). get_or file n 0) (sym from) ∙ byte_is file (0 + k) (rw from small))
-    ∙ ap (number (byte_bit file 0)) more
 
 -- ---- bytes that are those of a file from some place on
 
@@ -81,3 +73,29 @@ module _ (file : List ℕ) (small : (i : ℕ) → get_or file i 0 < 2 ^ 8) (from
       number_same (byte_bit bytes 0) (byte_bit file from) (8 * n) λ k h.
       let byte : 0 + k / 8 ≡ k / 8 = omega arith in
       ap (λ (b : ℕ). test_bit b (k % 8)) (ap (λ (i : ℕ). get_or bytes i 0) byte ∙ same (k / 8) (omega arith))
+
+module _ (bytes : List ℕ) (small : (i : ℕ) → get_or bytes i 0 < 2 ^ 8) where
+  -- a byte alone
+  pub single : length bytes ≡ 1 → get_or bytes 0 0 ≡ number (byte_bit bytes 0) (8 * length bytes)
+  single one =
+      let all : 8 ≡ 8 * length bytes = omega (arith, one) in
+      byte_is bytes 0 (small 0) ∙ ap (number (byte_bit bytes 0)) all
+
+  -- the first c + 1 bytes, and the rest put above them
+  pub parted : (c : ℕ) (first rest : List ℕ) {low high : ℕ} → length bytes ≤ 8 → length rest + suc c ≡ length bytes → first ≡ take (suc c) bytes → rest ≡ drop (suc c) bytes
+      → low ≡ sum_through (λ i. byte_worth i (get_or first i 0)) c → high ≡ number (byte_bit rest 0) (8 * length rest)
+      → bit_or low (high * 2 ^ (8 * suc c) % 2 ^ 64) ≡ number (byte_bit bytes 0) (8 * length bytes)
+  parted c first rest most long firsts rests low_is high_is =
+      let all : 8 * suc c + 8 * length rest ≡ 8 * length bytes = omega (arith, long) in
+      joined bytes 0 (suc c) (8 * length rest) (omega (arith, long))
+      (low_is
+      ∙ worth bytes small 0 first c
+      (λ i h.
+      let place : i ≡ 0 + i = omega arith in
+      ap (λ (l : List ℕ). get_or l i 0) firsts ∙ get_or-take (suc c) bytes i 0 h ∙ ap (λ (n : ℕ). get_or bytes n 0) place))
+      (high_is
+      ∙ bits bytes small (0 + suc c) rest (length rest)
+      (λ i h.
+      let place : suc c + i ≡ 0 + suc c + i = omega arith in
+      ap (λ (l : List ℕ). get_or l i 0) rests ∙ get_or-drop (suc c) bytes i 0 ∙ ap (λ (n : ℕ). get_or bytes n 0) place))
+      ∙ ap (number (byte_bit bytes 0)) all

@@ -11,16 +11,37 @@ ghost use Rattle.crop_rows.specs.UnpackClauses.{FileAccepted};
 
 use bit_matrix::Shape;
 
-// Fewer than eight bytes as one word, the first byte lowest.
+// At most one byte as a word.
+fn load_last(bytes: &[u8]) -> u64
+    requires { length bytes.now < 2 }
+    ensures { result ≡ number (byte_bit bytes.now 0) (8 * length bytes.now) }
+{
+    if bytes.is_empty() {
+        return 0;
+    }
+    u64::from(bytes[0])
+}
+
+// Fewer than four bytes as one word, the first byte lowest.
+fn load_fewer(bytes: &[u8]) -> u64
+    requires { length bytes.now < 4 }
+    ensures { result ≡ number (byte_bit bytes.now 0) (8 * length bytes.now) }
+{
+    match bytes.split_first_chunk() {
+        Some((two, rest)) => u64::from(u16::from_le_bytes(*two)) | load_last(rest) << 16,
+        None => load_last(bytes),
+    }
+}
+
+// Fewer than eight bytes as one word, the first byte lowest. By four, two and one of them: byte by byte an unpacked row took two to three times as long.
 fn load_few(bytes: &[u8]) -> u64
     requires { length bytes.now < 8 }
     ensures { result ≡ number (byte_bit bytes.now 0) (8 * length bytes.now) }
 {
-    let mut word = 0;
-    for (k, byte) in bytes.iter().enumerate() {
-        word |= u64::from(*byte) << (8 * k);
+    match bytes.split_first_chunk() {
+        Some((four, rest)) => u64::from(u32::from_le_bytes(*four)) | load_fewer(rest) << 32,
+        None => load_fewer(bytes),
     }
-    word
 }
 
 // Word x of the row that starts at byte `start` of a file and has `bytes` bytes. The last word may have fewer than eight of them.
