@@ -18,7 +18,7 @@ pub struct CropFile<'a> {
 }
 
 // Whether a padding bit of a file's rows is 1: those are the lowest of a row's last byte.
-// With the place of that byte beside the loop: `any` over a test of row y took two thirds more time.
+// The place of that byte goes along with the rows: `any` of a test of row y takes up to two thirds more time.
 pub fn file_padded(file: &CropFile) -> bool
     ensures { result ≡ file_padded file.now.bytes.now file.now.shape.width file.now.shape.height }
 {

@@ -20,22 +20,19 @@ module _ (file : List ℕ) (w : ℕ) (some : 1 ≤ w) where
   begins = record { place = omega arith; clean = refl }
 
   module _ {y last : ℕ} (passed : Passed file w y last) where
-    -- what the code's remainder says of the row
-    abbrev rest : ℕ
-    rest = get_or file last 0 % (1 * 2 ^ (row_bytes w * 8 - w) % 2 ^ 8)
+    -- what the code's remainder says of the row, where the shift is by as many bits as are padding
+    rest_is : {s : ℕ} → s ≡ 8 * row_bytes w - w → get_or file last 0 % (1 * 2 ^ s % 2 ^ 8) ≡ get_or file (last_byte w y) 0 % 2 ^ (8 * row_bytes w - w)
+    rest_is {s} spare =
+        ap (λ (n : ℕ). get_or file n 0 % (1 * 2 ^ s % 2 ^ 8)) passed.place
+        ∙ ap (λ (n : ℕ). get_or file (last_byte w y) 0 % n) (unit_is s (omega (arith, spare)) ∙ ap (λ (n : ℕ). 2 ^ n) spare)
 
-    rest_is : rest ≡ get_or file (last_byte w y) 0 % 2 ^ (8 * row_bytes w - w)
-    rest_is =
-        let spare : row_bytes w * 8 - w ≡ 8 * row_bytes w - w = omega arith in
-        ap (λ (n : ℕ). get_or file n 0 % (1 * 2 ^ (row_bytes w * 8 - w) % 2 ^ 8)) passed.place
-        ∙ ap (λ (n : ℕ). get_or file (last_byte w y) 0 % n) (unit_is (row_bytes w * 8 - w) (omega arith) ∙ ap (λ (s : ℕ). 2 ^ s) spare)
-
-    onward : rest ≡ 0 → Passed file w (y + 1) (last + row_bytes w)
+    onward : {s : ℕ} → get_or file last 0 % (1 * 2 ^ s % 2 ^ 8) ≡ 0 → s ≡ 8 * row_bytes w - w → Passed file w (y + 1) (last + row_bytes w)
     unfolding any_below
-    onward e = record { place = omega (arith, passed.place); clean = rw (add-one, file_row_clean file w y some (sym rest_is ∙ e)) passed.clean }
+    onward e spare =
+        record { place = omega (arith, passed.place); clean = rw (add-one, file_row_clean file w y some (sym (rest_is spare) ∙ e)) passed.clean }
 
-    found : {h : ℕ} → y < h → (rest ≡ 0 → ⊥) → true ≡ any_below (file_row file w) h
-    found {h} row ne = sym (any_found (file_row file w) h row (file_row_set file w y some λ e. ne (rest_is ∙ e)))
+    found : {h s : ℕ} → y < h → (get_or file last 0 % (1 * 2 ^ s % 2 ^ 8) ≡ 0 → ⊥) → s ≡ 8 * row_bytes w - w → true ≡ any_below (file_row file w) h
+    found {h} row ne spare = sym (any_found (file_row file w) h row (file_row_set file w y some λ e. ne (rest_is spare ∙ e)))
 
     inside : {h : ℕ} → length file ≡ file_length w h → y < h → last < length file
     inside size row = rw size (omega (arith, passed.place, digits_lt {r = row_bytes w - 1} {c = row_bytes w} row (omega arith)))
@@ -45,7 +42,7 @@ loop-y-init c = begins c.args.file.now.bytes.now c.args.file.now.shape.width (om
 
 pub loop-y-preserved : goal.loop-y-preserved
 loop-y-preserved c =
-    onward c.args.file.now.bytes.now c.args.file.now.shape.width (omega (arith, c.args.file.now.limits.width_least)) c.loop-y.invariant c.if-file-last-ne0.false
+    onward c.args.file.now.bytes.now c.args.file.now.shape.width (omega (arith, c.args.file.now.limits.width_least)) c.loop-y.invariant c.if-file-last-ne0.false (omega arith)
 
 pub bounds-file-last : goal.bounds-file-last
 bounds-file-last c =
@@ -54,6 +51,7 @@ bounds-file-last c =
 pub returns-then-file-last-ne0 : goal.returns-then-file-last-ne0
 returns-then-file-last-ne0 c =
     found c.args.file.now.bytes.now c.args.file.now.shape.width (omega (arith, c.args.file.now.limits.width_least)) c.loop-y.invariant c.loop-y-test.true c.if-file-last-ne0.true
+    (omega arith)
 
 pub returns : goal.returns
 returns c =
