@@ -1,6 +1,6 @@
 -- What holds of one search of a row, on the image at hand: where it does not end its row, the next one starts further to the right, and its candidate is fit
 -- for the steps after the sweep; and that the search with the source's test of the widths is the same. Assumes nothing.
-use Rattle.std.proofs.Common.{Option, Some, None, IfSome, cond, eqb, ℕ, zero, suc, ◌+◌, ◌-◌, ◌/◌, ◌≤◌, ◌<◌, arith, length-append, ◌≡◌, refl, Bool, true, false, length, get_or, List, [], ◌∷◌, ◌++◌}
+use Rattle.std.proofs.Common.{Option, Some, None, IfSome, Ok, Err, cond, eqb, ℕ, zero, suc, ◌+◌, ◌-◌, ◌/◌, ◌≤◌, ◌<◌, arith, length-append, ◌≡◌, refl, Bool, true, false, length, get_or, List, [], ◌∷◌, ◌++◌}
 use Rattle.std.proofs.lemmas.Bool.{eqb-false}
 use Rattle.std.proofs.Math.ListN.{replicate, length-replicate}
 use Rattle.reads.specs.ReadsLaws.{On, Same}
@@ -17,7 +17,8 @@ use Rattle.detector_widths.specs.WidthsF32.{valid_widths_f32}
 use Rattle.detector_first_window.specs.FirstWindowLaws.{Closed}
 use Rattle.detector_rows.specs.RowsLaws.{closed_on, same_rows_f32}
 use Rattle.detector_window.specs.declared.Bullseye.{Bullseye}
-use Rattle.detector_columns.specs.ColumnsLaws.{Bounded, verified_bounded, same_vertical_f32}
+use Rattle.detector_columns.specs.Columns.{Tried}
+use Rattle.detector_columns.specs.ColumnsLaws.{Bounded, EitherBounded, verified_bounded, same_vertical_f32}
 use Rattle.detector_candidate.specs.Candidate.{candidate_of, passed, failed, judged, judge_by, search_by}
 use Rattle.detector_candidate.specs.CandidateClauses.{Searchable, search_from}
 use Rattle.detector_candidate.specs.declared.Searched.{Searched}
@@ -137,17 +138,17 @@ pub search_fit : (shape : Shape) (image : ℕ → Bool) (row column : ℕ) → L
 unfolding search_by passed failed
 search_fit shape image row column limits at = on_bind image _ (closed_on shape row column image) judge_fit
   where
-    judged_fit : {eye : Bullseye} → Closed shape image row column eye → (vertical : Option (List ℕ)) → IfSome vertical (Bounded shape.height)
-        → FitSearch shape image column (judged row column eye vertical)
-    judged_fit closed (Some vertical) bounded = record { onward = passed_onward closed vertical; fit = candidate_fit limits at closed bounded }
-    judged_fit closed None _ = record { onward = failed_onward closed; fit = tt }
+    judged_fit : {eye : Bullseye} → Closed shape image row column eye
+        → (tried : Tried) → EitherBounded shape.height tried → FitSearch shape image column (judged row column eye tried)
+    judged_fit closed (Ok vertical) bounded = record { onward = passed_onward closed vertical; fit = candidate_fit limits at closed bounded }
+    judged_fit closed (Err vertical) _ = record { onward = failed_onward closed; fit = tt }
 
     judge_fit : (found : Option Bullseye) → IfSome found (Closed shape image row column)
         → On image (FitSearch shape image column) (judge_by valid_widths shape row column found)
     judge_fit None _ = on_done image (record { onward = tt; fit = tt })
     judge_fit (Some eye) closed =
-        on_bind image _ (on_always image (verified_bounded shape row eye.center)) λ vertical bounded.
-        on_done image (judged_fit closed vertical bounded)
+        on_bind image _ (on_always image (verified_bounded shape row eye.center)) λ tried bounded.
+        on_done image (judged_fit closed tried bounded)
 
 -- ---- with the source's test of the widths
 
@@ -158,4 +159,4 @@ same_search shape narrow low row column = same_after _ _ (same_rows_f32 shape ro
   where
     same_judge : (found : Option Bullseye) → Same (judge_by valid_widths_f32 shape row column found) (judge_by valid_widths shape row column found)
     same_judge None = same_refl
-    same_judge (Some eye) = same_after _ _ (same_vertical_f32 shape row low eye.center) λ vertical. same_refl
+    same_judge (Some eye) = same_after _ _ (same_vertical_f32 shape row low eye.center) λ tried. same_refl

@@ -16,7 +16,7 @@ pub struct Searched {
     pub next: Option<u32>,
 }
 
-// A candidate's record.
+// A candidate's record. Two for loops: `copy_from_slice` moves several runs at once, soon after they were stored one by one, which is slower.
 fn candidate_of(row: u32, eye: Bullseye, vertical: [u32; 11]) -> [u32; 40]
     ensures { result ≡ candidate_of row eye vertical }
 {
@@ -24,8 +24,12 @@ fn candidate_of(row: u32, eye: Bullseye, vertical: [u32; 11]) -> [u32; 40]
     fields[records::CENTER_X] = eye.center;
     fields[records::CENTER_Y] = row;
     fields[records::RADIUS] = eye.radius;
-    fields[records::ROW_RUNS..records::ROW_RUNS + 11].copy_from_slice(&eye.buckets);
-    fields[records::COLUMN_RUNS..records::COLUMN_RUNS + 11].copy_from_slice(&vertical);
+    for k in 0..11 {
+        fields[records::ROW_RUNS + k] = eye.buckets[k];
+    }
+    for k in 0..11 {
+        fields[records::COLUMN_RUNS + k] = vertical[k];
+    }
     fields
 }
 
@@ -65,7 +69,7 @@ pub fn search_from(image: &mut BitMatrix, row: u32, column: u32) -> Searched
         };
     };
     match detector_columns::verify_bullseye_vertical(image, row, eye.center) {
-        Some(vertical) => bullseye_passed(row, eye, vertical),
-        None => bullseye_failed(column, eye),
+        Ok(vertical) => bullseye_passed(row, eye, vertical),
+        Err(_) => bullseye_failed(column, eye),
     }
 }

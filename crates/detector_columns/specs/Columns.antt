@@ -1,6 +1,6 @@
 -- The vertical check of detector.rs (docs/MANUAL.md, "How a search decides"), as reading programs.
 -- `valid` is the test of the widths, the whole-number one or the source's in f32 (detector_widths/specs/). Definitions only. Assumes nothing.
-use Rattle.std.specs.Prelude.{ℕ, zero, suc, ◌+◌, ◌-◌, Bool, false, cond, List, [], ◌∷◌, ltb, replicate, Option, Some, None}
+use Rattle.std.specs.Prelude.{ℕ, zero, suc, ◌+◌, ◌-◌, Bool, false, cond, List, [], ◌∷◌, ltb, replicate, Result, Ok, Err}
 use Rattle.std.specs.Bool.{beq}
 use Rattle.reads.specs.Reads.{Reads, done, ◌>>=◌}
 use Rattle.bit_matrix.specs.declared.Shape.{Shape}
@@ -53,25 +53,29 @@ module _ (shape : Shape) (row : ℕ) where
     down ← column_vector shape column row Down
     done (potential_bullseye_array down up)
 
--- what has passed, or what passes later
-abbrev pub or_else : Option (List ℕ) → Reads (Option (List ℕ)) → Reads (Option (List ℕ))
-or_else None later = later
-or_else (Some runs) later = done (Some runs)
+-- the runs of a column: `Ok` if they pass
+abbrev pub Tried : Type 0
+Tried = Result (List ℕ) (List ℕ)
+
+-- what has passed, or what comes later, by the runs that did not
+abbrev pub or_else : Tried → (List ℕ → Reads Tried) → Reads Tried
+or_else (Ok runs) later = done (Ok runs)
+or_else (Err runs) later = later runs
 
 module _ (valid : List ℕ → Bool) (shape : Shape) (row : ℕ) where
-  -- the check of one column: its runs, if they pass
-  unfoldable pub try_column_by : ℕ → Reads (Option (List ℕ))
+  -- the check of one column
+  unfoldable pub try_column_by : ℕ → Reads Tried
   try_column_by column = do
     buckets ← potential_bullseye shape row column
-    done (cond (valid buckets) (Some buckets) None)
+    done (cond (valid buckets) (Ok buckets) (Err buckets))
 
-  -- columns one after the other, until one passes
-  unfoldable pub try_columns_by : List ℕ → Reads (Option (List ℕ))
-  try_columns_by [] = done None
-  try_columns_by (column ∷ columns) = do
-    passed ← try_column_by column
-    or_else passed (try_columns_by columns)
+  -- columns one after the other, until one passes; `last` are the runs of the last one tried, which stand where none passes
+  unfoldable pub try_columns_by : List ℕ → List ℕ → Reads Tried
+  try_columns_by last [] = done (Err last)
+  try_columns_by last (column ∷ columns) = do
+    tried ← try_column_by column
+    or_else tried (λ runs. try_columns_by runs columns)
 
   -- a column, then the next, then the one before
-  abbrev pub verify_bullseye_vertical_by : ℕ → Reads (Option (List ℕ))
-  verify_bullseye_vertical_by column = try_columns_by (column ∷ (column + 1) ∷ (column - 1) ∷ [])
+  abbrev pub verify_bullseye_vertical_by : ℕ → Reads Tried
+  verify_bullseye_vertical_by column = try_columns_by (replicate 11 0) (column ∷ (column + 1) ∷ (column - 1) ∷ [])

@@ -1,13 +1,13 @@
 -- What the clauses of functions name: the check with the test in whole numbers. With the source's in f32 results and reads are the same: `same_vertical_f32`,
 -- ColumnsLaws.antt. Assumes nothing.
-use Rattle.std.specs.Prelude.{ℕ, List, Option}
+use Rattle.std.specs.Prelude.{ℕ}
 use Rattle.reads.specs.Reads.{Reads}
 use Rattle.bit_matrix.specs.declared.Shape.{Shape}
 use Rattle.detector_widths.specs.Widths.{valid_widths}
-use Rattle.detector_columns.specs.Columns.{try_column_by, verify_bullseye_vertical_by}
+use Rattle.detector_columns.specs.Columns.{Tried, try_column_by, verify_bullseye_vertical_by}
 
-abbrev pub try_column : Shape → ℕ → ℕ → Reads (Option (List ℕ))
+abbrev pub try_column : Shape → ℕ → ℕ → Reads Tried
 try_column = try_column_by valid_widths
 
-abbrev pub verify_bullseye_vertical : Shape → ℕ → ℕ → Reads (Option (List ℕ))
+abbrev pub verify_bullseye_vertical : Shape → ℕ → ℕ → Reads Tried
 verify_bullseye_vertical = verify_bullseye_vertical_by valid_widths

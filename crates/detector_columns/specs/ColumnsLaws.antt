@@ -1,8 +1,9 @@
 -- What holds of the vertical check on every image: no run is longer than the rows, so no sum overflows, and the check with the source's test of the
 -- widths is the same. Assumes nothing.
-use Rattle.std.proofs.Common.{ℕ, zero, suc, ◌+◌, ◌-◌, ◌*◌, ◌≤◌, ◌<◌, arith, lt-ltb, le-ltb, get_or-set_same, get_or-set_other, ◌≡◌, refl, Bool, true, false, cond, List, [], ◌∷◌, ltb, length, set, replicate, Option, Some, None, IfSome}
+use Rattle.std.proofs.Common.{ℕ, zero, suc, ◌+◌, ◌-◌, ◌*◌, ◌≤◌, ◌<◌, arith, lt-ltb, le-ltb, get_or-set_same, get_or-set_other, ◌≡◌, refl, Bool, true, false, cond, List, [], ◌∷◌, ltb, length, set, replicate, Ok, Err, MatchResult}
 use Rattle.std.proofs.Math.Decide.{dec_lt, ℕ_discrete}
 use Rattle.std.proofs.Math.Seq.{set_out}
+use Rattle.reads.specs.Reads.{Reads}
 use Rattle.reads.specs.ReadsLaws.{Always, Same}
 use Rattle.reads.proofs.ReadsLaws.{always_done, always_bind, always_after, always_cond, same_refl, same_bind, same_after}
 use Rattle.reads.proofs.BitsLaws.{get_or_zeros}
@@ -19,6 +20,7 @@ use Rattle.detector_columns.specs.Columns.{
   column_vector,
   potential_bullseye_array,
   potential_bullseye,
+  Tried,
   or_else,
   try_column_by,
   try_columns_by,
@@ -113,6 +115,10 @@ array_bounded {height} {v} {w} down up =
 bounded_widths : {height : ℕ} {buckets : List ℕ} → height ≤ 2048 → Bounded height buckets → valid_widths_f32 buckets ≡ valid_widths buckets
 bounded_widths {buckets = buckets} low bounded = same_widths buckets (omega (arith, bounded.evens)) (omega (arith, bounded.odds))
 
+-- of the runs of a column that passes, and of one that does not
+abbrev pub EitherBounded : ℕ → Tried → Type 0
+EitherBounded height tried = MatchResult tried (Bounded height) (Bounded height)
+
 module _ (shape : Shape) (row : ℕ) where
   pub potential_bounded : (column : ℕ) → Always (Bounded shape.height) (potential_bullseye shape row column)
   unfolding potential_bullseye
@@ -121,27 +127,31 @@ module _ (shape : Shape) (row : ℕ) where
       always_bind _ (column_vector_le shape column row Down) λ down down_le.
       always_done (array_bounded down_le up_le)
 
-  bounded_if : {buckets : List ℕ} → Bounded shape.height buckets → (pass : Bool) → IfSome (cond pass (Some buckets) None) (Bounded shape.height)
-  bounded_if bounded true = bounded
-  bounded_if bounded false = tt
+  either_bounded : {buckets : List ℕ} → Bounded shape.height buckets → (pass : Bool) → EitherBounded shape.height (cond pass (Ok buckets) (Err buckets))
+  either_bounded bounded true = bounded
+  either_bounded bounded false = bounded
 
-  try_bounded : (column : ℕ) → Always (λ passed. IfSome passed (Bounded shape.height)) (try_column shape row column)
+  try_bounded : (column : ℕ) → Always (EitherBounded shape.height) (try_column shape row column)
   unfolding try_column_by
-  try_bounded column = always_bind _ (potential_bounded column) λ buckets bounded. always_done (bounded_if bounded (valid_widths buckets))
+  try_bounded column = always_bind _ (potential_bounded column) λ buckets bounded. always_done (either_bounded bounded (valid_widths buckets))
 
-  tries_bounded : (columns : List ℕ) → Always (λ passed. IfSome passed (Bounded shape.height)) (try_columns_by valid_widths shape row columns)
+  tries_bounded : (columns last : List ℕ) → Bounded shape.height last
+      → Always (EitherBounded shape.height) (try_columns_by valid_widths shape row last columns)
   unfolding try_columns_by
-  tries_bounded [] = always_done tt
-  tries_bounded (column ∷ columns) = always_bind _ (try_bounded column) (λ passed bounded. next passed bounded (tries_bounded columns))
+  tries_bounded [] last bounded = always_done bounded
+  tries_bounded (column ∷ columns) last _ = always_bind _ (try_bounded column) (next (tries_bounded columns))
     where
-      next : (passed : Option (List ℕ)) → IfSome passed (Bounded shape.height)
-          → Always (λ runs. IfSome runs (Bounded shape.height)) (try_columns_by valid_widths shape row columns)
-          → Always (λ runs. IfSome runs (Bounded shape.height)) (or_else passed (try_columns_by valid_widths shape row columns))
-      next None _ later = later
-      next (Some runs) bounded _ = always_done bounded
+      next : {later : List ℕ → Reads Tried} → ((runs : List ℕ) → Bounded shape.height runs → Always (EitherBounded shape.height) (later runs))
+          → (tried : Tried) → EitherBounded shape.height tried → Always (EitherBounded shape.height) (or_else tried later)
+      next _ (Ok runs) bounded = always_done bounded
+      next onward (Err runs) bounded = onward runs bounded
 
-  pub verified_bounded : (column : ℕ) → Always (λ passed. IfSome passed (Bounded shape.height)) (verify_bullseye_vertical shape row column)
-  verified_bounded column = tries_bounded _
+  zeros_bounded : Bounded shape.height (replicate 11 0)
+  zeros_bounded = record { eleven = refl; each = record { run = λ k. rw (get_or_zeros 11 k) (omega arith) }; evens = omega arith; odds = omega arith }
+
+  -- of the column that passes, and where none passes, of the last one tried
+  pub verified_bounded : (column : ℕ) → Always (EitherBounded shape.height) (verify_bullseye_vertical shape row column)
+  verified_bounded column = tries_bounded _ _ zeros_bounded
 
   -- ---- with the source's test of the widths
 
@@ -150,18 +160,18 @@ module _ (shape : Shape) (row : ℕ) where
   same_try low column =
       same_bind _ _ same_refl (potential_bounded column) λ buckets bounded. rw (bounded_widths low bounded) same_refl
 
-  same_tries : shape.height ≤ 2048 → (columns : List ℕ)
-      → Same (try_columns_by valid_widths_f32 shape row columns) (try_columns_by valid_widths shape row columns)
+  same_tries : shape.height ≤ 2048 → (columns last : List ℕ)
+      → Same (try_columns_by valid_widths_f32 shape row last columns) (try_columns_by valid_widths shape row last columns)
   unfolding try_columns_by
-  same_tries low [] = same_refl
-  same_tries low (column ∷ columns) = same_after _ _ (same_try low column) (λ passed. next passed (same_tries low columns))
+  same_tries low [] last = same_refl
+  same_tries low (column ∷ columns) last = same_after _ _ (same_try low column) (next (same_tries low columns))
     where
-      next : (passed : Option (List ℕ)) → Same (try_columns_by valid_widths_f32 shape row columns) (try_columns_by valid_widths shape row columns)
-          → Same (or_else passed (try_columns_by valid_widths_f32 shape row columns)) (or_else passed (try_columns_by valid_widths shape row columns))
-      next None later = later
-      next (Some runs) _ = same_refl
+      next : {later later' : List ℕ → Reads Tried} → ((runs : List ℕ) → Same (later runs) (later' runs))
+          → (tried : Tried) → Same (or_else tried later) (or_else tried later')
+      next _ (Ok runs) = same_refl
+      next onward (Err runs) = onward runs
 
   -- The check with the source's f32 test has the results and the reads of the check with the whole-number one.
   pub same_vertical_f32 : shape.height ≤ 2048 → (column : ℕ)
       → Same (verify_bullseye_vertical_by valid_widths_f32 shape row column) (verify_bullseye_vertical shape row column)
-  same_vertical_f32 low column = same_tries low _
+  same_vertical_f32 low column = same_tries low _ _

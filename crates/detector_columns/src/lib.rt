@@ -77,29 +77,35 @@ pub fn build_potential_bullsey_array(vector_1: &[u32; 6], vector_2: &[u32; 6]) -
     [a5, a4, a3, a2, a1, a0 + b0, b1, b2, b3, b4, b5]
 }
 
-// The check of one column: its eleven runs, if they pass.
-fn try_column(image: &mut BitMatrix, row: u32, column: u32) -> Option<[u32; 11]>
+// The check of one column: its eleven runs, Ok if they pass.
+fn try_column(image: &mut BitMatrix, row: u32, column: u32) -> Result<[u32; 11], [u32; 11]>
     ensures { RanOn (try_column image.old.shape row column) image.old result image.new }
 {
     let up_vector = get_column_vector(image, column, row, Direction::Up);
     let down_vector = get_column_vector(image, column, row, Direction::Down);
     let potential_bullseye = build_potential_bullsey_array(&down_vector, &up_vector);
     if detector_widths::validate_bullseye_widths(&potential_bullseye) {
-        Some(potential_bullseye)
+        Ok(potential_bullseye)
     } else {
-        None
+        Err(potential_bullseye)
     }
 }
 
-// A column is tried, then the next, then the one before, until one passes: its eleven runs.
-pub fn verify_bullseye_vertical(image: &mut BitMatrix, row: u32, column: u32) -> Option<[u32; 11]>
+// A column is tried, then the next, then the one before, until one passes: its eleven runs, or, if none passes, those of the last one tried.
+pub fn verify_bullseye_vertical(
+    image: &mut BitMatrix,
+    row: u32,
+    column: u32,
+) -> Result<[u32; 11], [u32; 11]>
     requires { (0 < column) × (column + 1 < 2 ^ 32) }
     ensures { RanOn (verify_bullseye_vertical image.old.shape row column) image.old result image.new }
 {
+    let mut last = [0; 11];
     for column in [column, column + 1, column - 1] {
-        if let Some(buckets) = try_column(image, row, column) {
-            return Some(buckets);
+        match try_column(image, row, column) {
+            Ok(buckets) => return Ok(buckets),
+            Err(buckets) => last = buckets,
         }
     }
-    None
+    Err(last)
 }

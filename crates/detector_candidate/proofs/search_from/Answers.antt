@@ -1,5 +1,5 @@
 -- `detector_candidate::search_from` meets its contract. That a window's centre and radius fit is a fact of the definition of the row search.
-use Rattle.std.proofs.Common.{ℕ, ◌+◌, ◌^◌, ◌≤◌, ◌<◌, ◌≡◌, List, Option, Some, None, arith}
+use Rattle.std.proofs.Common.{ℕ, ◌+◌, ◌^◌, ◌≤◌, ◌<◌, ◌≡◌, Some, None, arith}
 use Rattle.reads.specs.Bits.{bit_at}
 use Rattle.reads.proofs.RunsLaws.{on_ran}
 use Rattle.bit_matrix.specs.declared.BitMatrix.{BitMatrix}
@@ -9,6 +9,7 @@ use Rattle.detector_rows.specs.RowsClauses.{next_bullseye}
 use Rattle.detector_first_window.specs.FirstWindowLaws.{Closed}
 use Rattle.detector_rows.specs.RowsLaws.{closed_on}
 use Rattle.detector_window.specs.declared.Bullseye.{Bullseye}
+use Rattle.detector_columns.specs.Columns.{Tried}
 use Rattle.detector_columns.specs.ColumnsClauses.{verify_bullseye_vertical}
 use Rattle.detector_candidate.specs.Candidate.{nothing, judged, search_by}
 use Rattle.detector_candidate.specs.CandidateClauses.{Searchable, search_from}
@@ -36,8 +37,8 @@ module _ {image i₁ : BitMatrix} (row column : ℕ) where
       closing_fits : eye.center + eye.radius < 2 ^ 32
       closing_fits = omega (arith, image.is_image.limits.width_most, closed.before_limit)
 
-    looked : {vertical : Option (List ℕ)} {i₂ : BitMatrix} {s : Searched} → RanOn (verify_bullseye_vertical i₁.shape row eye.center) i₁ vertical i₂
-        → s ≡ judged row column eye vertical → RanOn (search_from image.shape row column) image s i₂
+    looked : {tried : Tried} {i₂ : BitMatrix} {s : Searched} → RanOn (verify_bullseye_vertical i₁.shape row eye.center) i₁ tried i₂
+        → s ≡ judged row column eye tried → RanOn (search_from image.shape row column) image s i₂
     unfolding search_by
     looked look made = on_bind _ run (on_bind _ (on_next (λ shape. verify_bullseye_vertical shape row eye.center) run.kept look) (on_is made))
 
@@ -53,9 +54,8 @@ bullseye_passed-requires c = closing_fits _ _ c.in-Some.ensures c.requires
 pub bullseye_failed-requires : goal.bullseye_failed-requires
 bullseye_failed-requires c = radius_left _ _ c.in-Some.ensures c.requires
 
-pub returns-in-Some-verify_bullseye_vertical : goal.returns-in-Some-verify_bullseye_vertical
-returns-in-Some-verify_bullseye_vertical c =
-    looked _ _ c.in-Some.ensures (c.in-Some-verify_bullseye_vertical).ensures c.bullseye_passed.ensures
+pub returns-in-Ok : goal.returns-in-Ok
+returns-in-Ok c = looked _ _ c.in-Some.ensures c.in-Ok.ensures c.bullseye_passed.ensures
 
-pub returns-in-None : goal.returns-in-None
-returns-in-None c = looked _ _ c.in-Some.ensures c.in-None.ensures c.bullseye_failed.ensures
+pub returns-in-Err : goal.returns-in-Err
+returns-in-Err c = looked _ _ c.in-Some.ensures c.in-Err.ensures c.bullseye_failed.ensures

@@ -1,5 +1,5 @@
 -- `detector_columns::try_column` meets its contract: the calls' runs, one after the other. The bound on the runs keeps the middle one in a u32.
-use Rattle.std.proofs.Common.{ℕ, ◌≤◌, ◌≡◌, true, false, List, Some, None, arith}
+use Rattle.std.proofs.Common.{ℕ, ◌≤◌, ◌≡◌, true, false, List, Ok, Err, arith}
 use Rattle.reads.proofs.RunsLaws.{always_ran}
 use Rattle.bit_matrix.specs.declared.BitMatrix.{BitMatrix}
 use Rattle.bit_matrix.specs.ImageClauses.{RanOn}
@@ -24,11 +24,11 @@ module _ {i₀ i₁ i₂ : BitMatrix} {up down : List ℕ} (row column : ℕ)
   tried same = on_bind _ above (on_bind _ (on_next (λ shape. column_vector shape column row Down) above.kept below) (on_is same))
 
   module _ {buckets : List ℕ} (same : buckets ≡ potential_bullseye_array down up) where
-    passes : true ≡ valid_widths buckets → RanOn (try_column i₀.shape row column) i₀ (Some buckets) i₂
+    passes : true ≡ valid_widths buckets → RanOn (try_column i₀.shape row column) i₀ (Ok buckets) i₂
     unfolding try_column_by
     passes pass = on_bind _ (tried same) (on_is (rw (← pass)))
 
-    fails : false ≡ valid_widths buckets → RanOn (try_column i₀.shape row column) i₀ None i₂
+    fails : false ≡ valid_widths buckets → RanOn (try_column i₀.shape row column) i₀ (Err buckets) i₂
     unfolding try_column_by
     fails fail = on_bind _ (tried same) (on_is (rw (← fail)))
 
