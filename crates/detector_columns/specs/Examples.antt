@@ -1,5 +1,5 @@
 -- The vertical check on images of one word in a row, by computation. Assumes nothing.
-use Rattle.std.specs.Prelude.{ℕ, Ok, List, [], ◌∷◌, ◌≡◌, refl}
+use Rattle.std.specs.Prelude.{ℕ, Ok, Err, List, [], ◌∷◌, ◌≡◌, refl}
 use Rattle.reads.specs.Reads.{Reads, ◌>>=◌, value, trace}
 use Rattle.reads.specs.Bits.{test_bit, bit_at}
 use Rattle.reads.specs.Runs.{value_of}
@@ -37,3 +37,13 @@ pub nudged : (value_of (verify_at 2) stripes ≡ from_black) × (value_of (verif
 unfolding value_of value ◌>>=◌ test_bit bit_at pixel even_runs_pass odd_runs_pass valid_widths
     bump rows_left vector_from column_vector potential_bullseye try_column_by try_columns_by
 nudged = (refl, refl)
+
+-- twelve rows, black at column 1 in each
+abbrev bars : List ℕ
+bars = 2 ∷ 2 ∷ 2 ∷ 2 ∷ 2 ∷ 2 ∷ 2 ∷ 2 ∷ 2 ∷ 2 ∷ 2 ∷ 2 ∷ []
+
+-- neither the white columns 2 and 3 pass nor column 1, and the runs are those of column 1
+pub last_stands : value_of (verify_at 2) bars ≡ Err (0 ∷ 0 ∷ 0 ∷ 0 ∷ 6 ∷ 0 ∷ 6 ∷ 0 ∷ 0 ∷ 0 ∷ 0 ∷ [])
+unfolding value_of value ◌>>=◌ test_bit bit_at pixel even_runs_pass odd_runs_pass valid_widths
+    bump rows_left vector_from column_vector potential_bullseye try_column_by try_columns_by
+last_stands = refl
