@@ -7,7 +7,7 @@ use Rattle.detector_boundary.specs.declared.Boundary.{Boundary}
 use Rattle.detector_boundary.specs.Boundary.{plain_boundary}
 use Rattle.detector_circle.specs.declared.Circle.{Circle}
 use Rattle.detector_outcome.specs.declared.Turn.{Turn}
-use Rattle.detector_outcome.specs.Outcomes.{ellipse_at, class_of, class_numbered}
+use Rattle.detector_outcome.specs.Outcomes.{ellipse_at, class_of}
 use Rattle.detector_corners.specs.Corners.{corners_of}
 use Rattle.detector_symbol.specs.declared.Symbol.{Symbol}
 use Rattle.detector_ellipse.specs.Ellipse.{detect_ellipse}
@@ -15,7 +15,7 @@ use Rattle.detector_turn.specs.Scales.{try_scales}
 
 -- the symbol of a plain box and a turn
 abbrev pub symbol_of : Boundary → Turn → Symbol
-symbol_of b turn = record { turn = turn; corners = corners_of b turn; class = class_numbered (class_of turn) }
+symbol_of b turn = record { turn = turn; corners = corners_of b turn; class = class_of turn }
 
 -- the scales; before them, with the option on, the ellipse check, from the first centre
 unfoldable pub turn_at : Bool → Shape → Circle → Reads Turn

@@ -1,7 +1,7 @@
 -- A symbol's words for each outcome, and what holds of every turn, with the option on or off. Assumes nothing.
 use Rattle.std.specs.Prelude.{ℕ, Bool, true, false, ◌≡◌, replicate, [], ◌∷◌, ◌++◌}
 use Rattle.std.proofs.Common.{arith}
-use Rattle.std.proofs.Math.Path.{refl, ap}
+use Rattle.std.proofs.Math.Path.{refl}
 use mathlib.Core.List.{flat_map}
 use Rattle.std.specs.Float.{binary32}
 use Rattle.std.specs.Float.Ieee.{of_int, to_bits}
@@ -13,7 +13,6 @@ use Rattle.rxing_result_point.specs.declared.PointU.{PointU}
 use Rattle.rxing_result_point.specs.Points.{real}
 use Rattle.detector_boundary.specs.declared.Boundary.{Boundary}
 use Rattle.detector_outcome.specs.Outcomes.{quarter_of, turned_by, not_turned, lost_at, ellipse_at}
-use Rattle.detector_outcome.specs.OutcomesLaws.{quarter_word}
 use Rattle.detector_corners.specs.Corners.{plain_corners, turned_corners, corners_of}
 use Rattle.detector_symbol.specs.Symbols.{four_corners, symbol_words}
 use Rattle.detector_box.specs.Boxes.{symbol_of, turn_at}
@@ -25,9 +24,7 @@ module _ (b : Boundary) (center : PointU) where
   pub turned_words : (degree scale : ℕ) → symbol_words (symbol_of b (turned_by degree scale center))
       ≡ 1 ∷ scale ∷ to_bits binary32 (real degree) ∷ center.x ∷ center.y ∷ four_corners (turned_corners b center degree) ++ (quarter_of degree ∷ [])
   unfolding symbol_words corners_of
-  turned_words degree scale =
-      ap (λ (word : ℕ). 1 ∷ scale ∷ to_bits binary32 (real degree) ∷ center.x ∷ center.y ∷ four_corners (turned_corners b center degree) ++ (word ∷ []))
-      (quarter_word degree)
+  turned_words degree scale = refl
 
   -- without: 0, no scale, rotation 0, the last corrected centre, the plain box, class 4
   pub no_turn_words : symbol_words (symbol_of b (not_turned center)) ≡ 0 ∷ 0 ∷ 0 ∷ center.x ∷ center.y ∷ four_corners (plain_corners b) ++ (4 ∷ [])

@@ -21,6 +21,8 @@ fn turn_of(image: &mut BitMatrix, circle: Circle, sines: &Sines, ellipse: bool) 
     if ellipse && detector_ellipse::detect_ellipse(image, circle.center, sines) {
         return Turn {
             outcome: Outcome::Ellipse,
+            degree: 0,
+            scale: 0,
             center: circle.center,
         };
     }
@@ -39,6 +41,6 @@ pub fn box_symbol(image: &mut BitMatrix, circle: Circle, sines: &Sines, ellipse:
     Symbol {
         turn,
         corners,
-        class,
+        class: u32::from(class),
     }
 }

@@ -13,8 +13,7 @@ use Rattle.records.specs.RecordsClauses.{Each}
 use Rattle.rxing_result_point.specs.Points.{real}
 use Rattle.detector_boundary.specs.declared.Boundary.{Boundary}
 use Rattle.detector_outcome.specs.declared.Turn.{Turn}
-use Rattle.detector_outcome.specs.Outcomes.{degree_of}
-use Rattle.detector_outcome.specs.OutcomesLaws.{Classed, class_by_outcome, class_word}
+use Rattle.detector_outcome.specs.OutcomesLaws.{Classed, class_by_outcome}
 use Rattle.detector_symbol.specs.declared.Symbol.{Symbol}
 use Rattle.detector_symbol.specs.Symbols.{with_symbol}
 use Rattle.detector_symbol.specs.SymbolsLaws.{whole_symbol, symbol_fields}
@@ -43,11 +42,11 @@ module _ (ellipse : Bool) (shape : Shape) where
       let fields = symbol_fields r (symbol_of b turn) whole in
       record {
         whole = whole_symbol r (symbol_of b turn) whole;
-        degree = degree_of turn.outcome;
+        degree = turn.degree;
         even = ended.even;
         low = ended.low;
         rotation = fields.rotation ∙ ended.rotation;
-        classed = rw (fields.outcome, fields.class ∙ class_word turn) (class_by_outcome turn);
+        classed = rw (fields.outcome, fields.class) (class_by_outcome turn);
       }
 
   boxed_classed : (r : Record) → WholeInside shape r → Always ClassedRecord (boxed ellipse shape r)

@@ -30,9 +30,9 @@ no_corners = corner 0 0 ∷ corner 0 0 ∷ corner 0 0 ∷ corner 0 0 ∷ []
 -- a corner by a turn, without the casts
 abbrev pub corner_by : Turn → ℕ → ℕ → Point
 corner_by turn x y =
-    if_outcome (λ degree scale. get_point turn.center (record { x = x; y = y }) degree) (corner x y) (λ scale. corner x y) (corner 0 0) turn.outcome
+    if_outcome (λ rotation. get_point turn.center (record { x = x; y = y }) turn.degree) (corner x y) (corner x y) (corner 0 0) turn.outcome
 
 -- turned about the turn's centre, plain, or none
 unfoldable pub corners_of : Boundary → Turn → List Point
 corners_of b turn =
-    if_outcome (λ degree scale. turned_corners b turn.center degree) (plain_corners b) (λ scale. plain_corners b) no_corners turn.outcome
+    if_outcome (λ rotation. turned_corners b turn.center turn.degree) (plain_corners b) (plain_corners b) no_corners turn.outcome

@@ -18,10 +18,10 @@ fn corner_by(turn: Turn, x: u32, y: u32, sines: &Sines) -> Point
 {
     let corner = PointU { x, y };
     match turn.outcome {
-        Outcome::Turned { degree, .. } => {
-            rxing_result_point::get_point(turn.center, corner, sines, degree)
+        Outcome::Turned(_) => {
+            rxing_result_point::get_point(turn.center, corner, sines, turn.degree)
         }
-        Outcome::NoTurn | Outcome::LostCentre { .. } => Point::from(corner),
+        Outcome::NoTurn | Outcome::LostCentre => Point::from(corner),
         Outcome::Ellipse => Point::from(PointU { x: 0, y: 0 }),
     }
 }

@@ -2,40 +2,27 @@
 #![tactic(auto)]
 
 ghost use Rattle.std.specs.Prelude.{◌≡◌, ◌<◌};
-ghost use Rattle.detector_outcome.specs.Outcomes.{outcome_number, degree_of, scale_of, rotation_bits, class_number, quarter_of, class_of};
+ghost use Rattle.detector_outcome.specs.Outcomes.{outcome_number, rotation_bits, class_number, quarter_of, class_of};
 
 use rxing_result_point::PointU;
 
-// What the scales come to, or an ellipse, for which none is tried: with a turn its degree, and the scale that turned or lost the centre.
+// What the scales come to, or an ellipse, for which none is tried. With a turn its degrees, as f32.
 #[derive(Clone, Copy)]
 pub enum Outcome {
-    Turned { degree: u32, scale: u32 },
+    Turned(f32),
     NoTurn,
-    LostCentre { scale: u32 },
+    LostCentre,
     Ellipse,
 }
 
 impl Outcome {
-    // The word for the scale in a record, 0 without one.
-    pub fn scale(self) -> u32
-        ensures { result ≡ scale_of self }
-    {
-        match self {
-            Outcome::Turned { scale, .. } | Outcome::LostCentre { scale } => scale,
-            Outcome::NoTurn | Outcome::Ellipse => 0,
-        }
-    }
-
-    // The word for the rotation in a record: the bits of the degree as an f32.
+    // The word for the rotation in a record: its bits.
     pub fn rotation_bits(self) -> u32
         ensures { result ≡ rotation_bits self }
     {
         match self {
-            Outcome::Turned { degree, .. } => {
-                let rotation = std::num::nearest_u32_to_f32(degree);
-                std::num::f32_to_bits_with_nan(rotation)
-            }
-            Outcome::NoTurn | Outcome::LostCentre { .. } | Outcome::Ellipse => 0,
+            Outcome::Turned(rotation) => std::num::f32_to_bits_with_nan(rotation),
+            Outcome::NoTurn | Outcome::LostCentre | Outcome::Ellipse => 0,
         }
     }
 }
@@ -46,18 +33,20 @@ impl From<Outcome> for u32 {
 
     fn from(outcome: Outcome) -> u32 {
         match outcome {
-            Outcome::Turned { .. } => 1,
+            Outcome::Turned(_) => 1,
             Outcome::NoTurn => 0,
-            Outcome::LostCentre { .. } => 2,
+            Outcome::LostCentre => 2,
             Outcome::Ellipse => 3,
         }
     }
 }
 
-// What was found, and the last centre inside the image.
+// What was found: the degree of the turn (0 without one), the scale that turned or lost the centre (0 without), and the last centre inside the image.
 #[derive(Clone, Copy)]
 pub struct Turn {
     pub outcome: Outcome,
+    pub degree: u32,
+    pub scale: u32,
     pub center: PointU,
 }
 
@@ -95,11 +84,11 @@ pub fn quarter_of(degree: u32) -> Class
 
 // The class of a symbol.
 pub fn class_of(turn: Turn) -> Class
-    requires { degree_of turn.outcome < 360 }
+    requires { turn.degree < 360 }
     ensures { class_number result ≡ class_of turn }
 {
     match turn.outcome {
-        Outcome::Turned { degree, .. } => quarter_of(degree),
-        Outcome::NoTurn | Outcome::LostCentre { .. } | Outcome::Ellipse => Class::WithoutTurn,
+        Outcome::Turned(_) => quarter_of(turn.degree),
+        Outcome::NoTurn | Outcome::LostCentre | Outcome::Ellipse => Class::WithoutTurn,
     }
 }

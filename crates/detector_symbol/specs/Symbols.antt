@@ -5,7 +5,7 @@ use Rattle.std.specs.Float.{nan, binary32}
 use Rattle.std.specs.Float.Ieee.{to_bits}
 use Rattle.records.specs.Fields as field
 use Rattle.rxing_result_point.specs.declared.Point.{Point}
-use Rattle.detector_outcome.specs.Outcomes.{outcome_number, scale_of, rotation_bits, class_number}
+use Rattle.detector_outcome.specs.Outcomes.{outcome_number, rotation_bits}
 use Rattle.detector_symbol.specs.declared.Symbol.{Symbol}
 
 -- a corner's two words
@@ -20,7 +20,7 @@ four_corners ps = flat_map (λ k. corner_words (get_or ps k (record { x = nan; y
 unfoldable pub symbol_words : Symbol → List ℕ
 symbol_words s =
     let turn = s.turn in
-    outcome_number turn.outcome ∷ scale_of turn.outcome ∷ rotation_bits turn.outcome ∷ turn.center.x ∷ turn.center.y ∷ four_corners s.corners ++ (class_number s.class ∷ [])
+    outcome_number turn.outcome ∷ turn.scale ∷ rotation_bits turn.outcome ∷ turn.center.x ∷ turn.center.y ∷ four_corners s.corners ++ (s.class ∷ [])
 
 -- a record of 40 words with those of the symbol, from its outcome on
 unfoldable pub with_symbol : List ℕ → Symbol → List ℕ

@@ -3,7 +3,7 @@ use Rattle.std.specs.Prelude.{ℕ, ◌+◌, ◌≡◌, length, get_or, take, dro
 use Rattle.std.proofs.Common.{arith, sym, ap, ◌∙◌, length-append, take_at, drop_at, drop-drop, length-take-le, get_or-append-add}
 use mathlib.Core.List.{flat_map}
 use Rattle.records.specs.Fields as field
-use Rattle.detector_outcome.specs.Outcomes.{outcome_number, scale_of, rotation_bits, class_number}
+use Rattle.detector_outcome.specs.Outcomes.{outcome_number, rotation_bits}
 use Rattle.detector_symbol.specs.declared.Symbol.{Symbol}
 use Rattle.detector_symbol.specs.Symbols.{four_corners, symbol_words, with_symbol}
 
@@ -19,12 +19,12 @@ whole_symbol fields s e = simp length-append (omega (arith, length-take-le 26 fi
 -- the symbol's words by their names
 pub record SymbolFields (r : List ℕ) (s : Symbol) : Type 0 where
   pub outcome : get_or r field.outcome 0 ≡ outcome_number s.turn.outcome
-  pub scale : get_or r field.scale 0 ≡ scale_of s.turn.outcome
+  pub scale : get_or r field.scale 0 ≡ s.turn.scale
   pub rotation : get_or r field.rotation 0 ≡ rotation_bits s.turn.outcome
   pub last_x : get_or r field.last_center_x 0 ≡ s.turn.center.x
   pub last_y : get_or r field.last_center_y 0 ≡ s.turn.center.y
   pub corners : take 8 (drop field.corners r) ≡ four_corners s.corners
-  pub class : get_or r field.class 0 ≡ class_number s.class
+  pub class : get_or r field.class 0 ≡ s.class
 
 pub symbol_fields : (fields : List ℕ) (s : Symbol) → length fields ≡ 40 → SymbolFields (with_symbol fields s) s
 unfolding with_symbol symbol_words flat_map

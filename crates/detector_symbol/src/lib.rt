@@ -5,7 +5,7 @@ ghost use Rattle.std.specs.Prelude.{◌≡◌, ◌<◌, length};
 ghost use Rattle.std.proofs.lemmas.List.Edits.{sets};
 ghost use Rattle.detector_symbol.specs.Symbols.{corner_words, with_symbol};
 
-use detector_outcome::{Class, Turn};
+use detector_outcome::Turn;
 use rxing_result_point::Point;
 
 // A symbol's turn, its corners (left, bottom), (left, top), (right, bottom), (right, top), and its class.
@@ -13,7 +13,7 @@ use rxing_result_point::Point;
 pub struct Symbol {
     pub turn: Turn,
     pub corners: [Point; 4],
-    pub class: Class,
+    pub class: u32,
 }
 
 // A corner's two words, from that index on.
@@ -30,14 +30,16 @@ pub fn symbol_fields(fields: &mut [u32; 40], symbol: Symbol)
     requires { length fields.old ≡ 40 }
     ensures { fields.new ≡ with_symbol fields.old symbol }
 {
-    let Turn { outcome, center } = symbol.turn;
+    let turn = symbol.turn;
+    let outcome = turn.outcome;
+    let center = turn.center;
     fields[records::OUTCOME] = u32::from(outcome);
-    fields[records::SCALE] = outcome.scale();
+    fields[records::SCALE] = turn.scale;
     fields[records::ROTATION] = outcome.rotation_bits();
     fields[records::LAST_CENTER_X] = center.x;
     fields[records::LAST_CENTER_Y] = center.y;
     for (i, corner) in symbol.corners.iter().enumerate() {
         store_corner(fields, records::CORNERS + 2 * i, *corner);
     }
-    fields[records::CLASS] = u32::from(symbol.class);
+    fields[records::CLASS] = symbol.class;
 }

@@ -23,7 +23,7 @@ use Rattle.detector_circle.specs.declared.Circle.{Circle}
 use Rattle.detector_degrees.specs.Degrees.{if_rotation, try_degrees}
 use Rattle.detector_degrees.specs.DegreesLaws.{Tried, tried, degrees_by_angle}
 use Rattle.detector_outcome.specs.declared.Turn.{Turn}
-use Rattle.detector_outcome.specs.Outcomes.{if_outcome, degree_of, scale_of, rotation_bits, turned_by}
+use Rattle.detector_outcome.specs.Outcomes.{if_outcome, rotation_bits, turned_by}
 use Rattle.detector_turn.specs.Scales.{accepted_scales, accepted_scale, is_outside, attempt_rotation_box, scales_from, try_scales}
 use Rattle.detector_turn.specs.SourceScales.{attempt_at_each_point}
 use Rattle.detector_turn.specs.ScalesClauses.{LentCircle}
@@ -31,11 +31,11 @@ use Rattle.detector_turn.specs.ScalesClauses.{LentCircle}
 -- A degree is even and at most 348, and 0 without a turn. The rotation is the degree as an f32. With a turn or a lost centre the scale is 1 to 5, else 0.
 -- The centre lies inside the image.
 pub record Ended (shape : Shape) (turn : Turn) : Type 0 where
-  pub even : degree_of turn.outcome % 2 ≡ 0
-  pub low : degree_of turn.outcome ≤ 348
-  pub rotation : rotation_bits turn.outcome ≡ to_bits binary32 (real (degree_of turn.outcome))
-  pub scale_least : if_outcome (λ degree scale. 1) 0 (λ scale. 1) 0 turn.outcome ≤ scale_of turn.outcome
-  pub scale_most : scale_of turn.outcome ≤ if_outcome (λ degree scale. 5) 0 (λ scale. 5) 0 turn.outcome
+  pub even : turn.degree % 2 ≡ 0
+  pub low : turn.degree ≤ 348
+  pub rotation : rotation_bits turn.outcome ≡ to_bits binary32 (real turn.degree)
+  pub scale_least : if_outcome (λ r. 1) 0 1 0 turn.outcome ≤ turn.scale
+  pub scale_most : turn.scale ≤ if_outcome (λ r. 5) 0 5 0 turn.outcome
   pub inside : Inside shape turn.center.x turn.center.y
 
 neither : (a b : Bool) → (a || b) ≡ false → (a ≡ false) × (b ≡ false)

@@ -52,20 +52,26 @@ pub fn try_scales(image: &mut BitMatrix, circle: Circle, sines: &Sines) -> Turn
         circle.calculate_high_accuracy_center(image, sines);
         if is_outside(image.shape, circle.center) {
             return Turn {
-                outcome: Outcome::LostCentre { scale },
+                outcome: Outcome::LostCentre,
+                degree: 0,
+                scale,
                 center,
             };
         }
         let rotation = attempt_rotation_box(image, circle, *percent, sines);
         if let Some(degree) = rotation {
             return Turn {
-                outcome: Outcome::Turned { degree, scale },
+                outcome: Outcome::Turned(std::num::nearest_u32_to_f32(degree)),
+                degree,
+                scale,
                 center: circle.center,
             };
         }
     }
     Turn {
         outcome: Outcome::NoTurn,
+        degree: 0,
+        scale: 0,
         center: circle.center,
     }
 }

@@ -1,5 +1,5 @@
 -- `detector_box::box_symbol` meets its contract: the turn's run, and what the other calls ensure.
-use Rattle.std.proofs.Common.{◌<◌, arith, Bool, List, ◌≡◌, sym, ap, ◌∙◌}
+use Rattle.std.proofs.Common.{ℕ, ◌<◌, arith, Bool, List, ◌≡◌, ◌∙◌}
 use Rattle.reads.proofs.RunsLaws.{always_ran}
 use Rattle.bit_matrix.specs.declared.BitMatrix.{BitMatrix}
 use Rattle.bit_matrix.specs.ImageClauses.{RanOn}
@@ -12,8 +12,7 @@ use Rattle.detector_boundary.specs.BoundaryClauses.{Placed}
 use Rattle.detector_circle.specs.declared.Circle.{Circle}
 use Rattle.detector_outcome.specs.declared.Turn.{Turn}
 use Rattle.detector_outcome.specs.declared.Class.{Class}
-use Rattle.detector_outcome.specs.Outcomes.{degree_of, class_of, class_number, class_numbered}
-use Rattle.detector_outcome.specs.OutcomesLaws.{class_back}
+use Rattle.detector_outcome.specs.Outcomes.{class_of, class_number}
 use Rattle.detector_turn.specs.ScalesClauses.{InsideCircle}
 use Rattle.detector_box.specs.Boxes.{turn_at, symbol_at}
 use Rattle.detector_box.specs.BoxesLaws.{turn_ended}
@@ -25,16 +24,16 @@ module _ {i₀ i₁ : BitMatrix} (circle : Circle) (ellipse : Bool) {turn : Turn
   placed here e =
       rw (e, run.kept.shape) (plain_placed (record { limits = i₀.is_image.limits; inside = here.inside }) here.least here.most)
 
-  low : InsideCircle i₀.shape circle → degree_of turn.outcome < 360
+  low : InsideCircle i₀.shape circle → turn.degree < 360
   low here =
       let ended = always_ran (turn_ended ellipse i₀.shape circle here.inside) run.ran in
       omega (arith, ended.low)
 
-  boxed : {b : Boundary} {corners : List Point} {class : Class} → b ≡ plain_boundary i₁.shape circle.center circle.radius
-      → corners ≡ corners_of b turn → class_number class ≡ class_of turn
-      → RanOn (symbol_at ellipse i₀.shape circle) i₀ (record { turn = turn; corners = corners; class = class }) i₁
+  boxed : (class : Class) {b : Boundary} {corners : List Point} {word : ℕ} → b ≡ plain_boundary i₁.shape circle.center circle.radius
+      → corners ≡ corners_of b turn → class_number class ≡ class_of turn → word ≡ class_number class
+      → RanOn (symbol_at ellipse i₀.shape circle) i₀ (record { turn = turn; corners = corners; class = word }) i₁
   unfolding symbol_at
-  boxed {class = class} e f g = on_bind _ run (on_is (rw (f, sym (class_back class) ∙ ap class_numbered g, e, run.kept.shape)))
+  boxed class e f g h = on_bind _ run (on_is (rw (f, h ∙ g, e, run.kept.shape)))
 
 pub corners_of-corners-requires : goal.corners_of-corners-requires
 corners_of-corners-requires c = search placed

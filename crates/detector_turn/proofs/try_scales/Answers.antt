@@ -1,5 +1,5 @@
 -- `detector_turn::try_scales` meets its contract.
-use Rattle.std.specs.Prelude.{◌≡◌, refl, ℕ, suc, ◌+◌, ◌-◌, ◌≤◌, ◌<◌, Bool, true, false, get_or, T, Option, None, Some}
+use Rattle.std.specs.Prelude.{◌≡◌, refl, ℕ, suc, ◌+◌, ◌-◌, ◌≤◌, ◌<◌, Bool, true, false, get_or, T, Float, Option, None, Some}
 use Rattle.std.specs.Float.{nan}
 use Rattle.std.proofs.Common.{sym, ap, ◌∙◌, arith}
 use Rattle.reads.specs.ReadsLaws.{Always}
@@ -10,11 +10,13 @@ use Rattle.bit_matrix.specs.declared.Shape.{Shape}
 use Rattle.bit_matrix.specs.declared.BitMatrix.{BitMatrix}
 use Rattle.bit_matrix.specs.ImageClauses.{Kept, RanOn}
 use Rattle.bit_matrix.proofs.ImageLaws.{kept_same, kept_on, onto}
+use Rattle.rxing_result_point.specs.Points.{real}
 use Rattle.detector_size.specs.SizeClauses.{is_scale}
 use Rattle.detector_circle.specs.declared.Circle.{Circle}
 use Rattle.detector_circle.specs.Circle.{corrected_circle}
 use Rattle.detector_outcome.specs.declared.Turn.{Turn}
-use Rattle.detector_outcome.specs.Outcomes.{turned_by, not_turned, lost_at}
+use Rattle.detector_outcome.specs.declared.Outcome.TheVariants.{Turned}
+use Rattle.detector_outcome.specs.Outcomes.{not_turned, lost_at}
 use Rattle.detector_turn.specs.Scales.{accepted_scales, accepted_scale, is_outside, attempt_rotation_box, scales_from, try_scales}
 use Rattle.detector_turn.specs.ScalesClauses.{InsideCircle}
 use Rattle.detector_turn.specs.ScalesLaws.{inside_of, scale_accepted}
@@ -86,9 +88,10 @@ module _ {first image : BitMatrix} {start circle : Circle} {i : ℕ} (trying : T
         ran_on : Ran (attempt_rotation_box first.shape next (accepted_scale (i + 1))) first.words.now after.marks.now rotation last.marks.now
         ran_on = rw (scale_read i) at (onto (λ (shape : Shape). attempt_rotation_box shape next (get_or accepted_scales i nan)) kept tried)
 
-        found : {degree : ℕ} → rotation ≡ Some degree → Result (turned_by degree (i + 1) next.center) last
+        found : {degree : ℕ} {turned : Float} → rotation ≡ Some degree → turned ≡ real degree
+            → Result (record { outcome = Turned turned; degree = degree; scale = i + 1; center = next.center }) last
         unfolding scales_from
-        found is = record {
+        found is same = rw same record {
           kept = kept_on kept tried.kept;
           ran =
               resumes_end (ran_done _)
