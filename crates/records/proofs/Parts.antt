@@ -1,17 +1,9 @@
--- The part of a list that a record's range of indices picks. Assumes nothing.
-use Rattle.std.specs.Prelude.{ℕ, zero, suc, ◌≤◌, ◌/◌, refl, length, ◌+◌, ◌-◌, ◌*◌, ◌≡◌, List, [], ◌∷◌, take, drop}
+-- A list in chunks of 40 words is its records. Assumes nothing.
+use Rattle.std.specs.Prelude.{ℕ, zero, suc, ◌≤◌, ◌/◌, refl, length, ◌*◌, ◌≡◌, List, [], ◌∷◌, take, drop}
 use Rattle.std.proofs.Common.{arith, sym, ap, ◌∙◌, append-nil, length-take-le}
 use Rattle.records.specs.RecordsLaws.{rows_front}
 use Rattle.std.specs.Simd.{first_chunks}
 use Rattle.records.specs.Records.{rows}
-use Rattle.records.specs.RecordsClauses.{get}
-
-width : (n : ℕ) → n + 40 - n ≡ 40
-width n = omega arith
-
-pub part_read : (l : List ℕ) (i : ℕ) → take (40 * i + 40 - 40 * i) (drop (40 * i) l) ≡ get l i
-unfolding get
-part_read l i = ap (λ (n : ℕ). take n (drop (40 * i) l)) (width (40 * i))
 
 -- chunks of 40 words are records
 chunked : (n : ℕ) (l : List ℕ) → first_chunks 40 n l ≡ rows n l

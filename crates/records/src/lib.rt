@@ -47,17 +47,19 @@ pub fn front(records: &[u32], count: usize) -> &[[u32; 40]]
     records[..40 * count].as_chunks::<40>().0
 }
 
-// Record i.
+// Record i. A for, here and in `store`: `copy_from_slice` may come to `memcpy` or `memmove`, which a host of an archive need not have.
 pub fn load(records: &[u32], i: usize) -> [u32; 40]
     requires { 40 * i + 40 ≤ length records.now }
     ensures { result ≡ get records.now i }
 {
     let mut fields = [0u32; 40];
-    fields.copy_from_slice(&records[40 * i..40 * i + 40]);
+    for k in 0..40 {
+        fields[k] = records[40 * i + k];
+    }
     fields
 }
 
-// Record i is replaced. A for: `copy_from_slice` into a lent slice calls `memmove`, which a host of the archive need not have.
+// Record i is replaced.
 pub fn store(records: &mut [u32], i: usize, fields: &[u32; 40])
     requires { (40 * i + 40 ≤ length records.old) × (length fields.now ≡ 40) }
     ensures { records.new ≡ put records.old i fields.now }
