@@ -41,9 +41,10 @@ fn try_offsets(
     for i in 0..175 {
         let degree = i * 2;
         let angle = sines.angle(degree);
-        let found = detector_colours::test_degree(image, center, offsets, angle)?;
-        if found {
-            return Some(degree);
+        match detector_colours::test_degree(image, center, offsets, angle) {
+            Some(true) => return Some(degree),
+            Some(false) => {}
+            None => return None,
         }
     }
     None

@@ -1,5 +1,5 @@
 -- `detector_degrees::try_offsets` meets its contract.
-use Rattle.std.proofs.Common.{◌≡◌, ℕ, suc, ◌+◌, ◌-◌, ◌*◌, ◌<◌, ◌≤◌, Bool, true, false, List, Option, None, Some, arith}
+use Rattle.std.proofs.Common.{refl, ◌≡◌, ℕ, suc, ◌+◌, ◌-◌, ◌*◌, ◌<◌, ◌≤◌, Bool, true, false, List, Option, None, Some, arith}
 use Rattle.reads.specs.Reads.{Reads, done}
 use Rattle.reads.specs.RunsClauses.{Resumes}
 use Rattle.reads.proofs.RunsLaws.{ran_done, resumes_step, resumes_end}
@@ -50,15 +50,14 @@ module _ (center : Point) (offsets : List Point) where
         onward : found ≡ false → Trying image₀ (look image₀.shape) after (i + 1)
         onward e = record { kept = kept_on trying.kept run.kept; resumes = rw e at (rest run) }
 
-pub returns-in_err-found : goal.returns-in_err-found
-returns-in_err-found c =
-    rw c.from_residual.ensures (lost _ _ c.loop-i.invariant c.loop-i-test.true c.angle-angle.ensures c.in_err-found.ensures)
+pub returns-in-None : goal.returns-in-None
+returns-in-None c = lost _ _ c.loop-i.invariant c.loop-i-test.true c.angle-angle.ensures c.in-None.ensures
 
-pub returns-then-found : goal.returns-then-found
-returns-then-found c = right _ _ c.loop-i.invariant c.loop-i-test.true c.angle-angle.ensures c.in_ok-found.ensures c.if-found.true
+pub returns-in-Some-true : goal.returns-in-Some-true
+returns-in-Some-true c = right _ _ c.loop-i.invariant c.loop-i-test.true c.angle-angle.ensures c.in-Some-true.ensures c.in-Some-true.field-0-test
 
 pub loop-i-preserved : goal.loop-i-preserved
-loop-i-preserved c = onward _ _ c.loop-i.invariant c.loop-i-test.true c.angle-angle.ensures c.in_ok-found.ensures c.if-found.false
+loop-i-preserved c = onward _ _ c.loop-i.invariant c.loop-i-test.true c.angle-angle.ensures c.in-Some-false.ensures c.in-Some-false.field-0-test
 
 pub returns : goal.returns
 returns c = search at_end
