@@ -6,7 +6,7 @@ use Rattle.records.specs.Records.{Record}
 use Rattle.bit_matrix.specs.declared.Shape.{Shape}
 use Rattle.detector_rows.specs.Rows.{next_bullseye_by}
 use Rattle.detector_window.specs.declared.Bullseye.{Bullseye}
-use Rattle.detector_columns.specs.Columns.{Tried, verify_bullseye_vertical_by}
+use Rattle.detector_columns.specs.Columns.{Verified, verify_bullseye_vertical_by}
 use Rattle.detector_candidate.specs.declared.Searched.{Searched}
 
 -- a candidate's record: centre, radius, the runs of its row and of its column; what later steps fill in is zero
@@ -29,7 +29,7 @@ failed column eye =
     record { candidate = None; next = cond (eqb next column) None (Some next) }
 
 -- what a window comes to, by the check of its column
-abbrev pub judged : ℕ → ℕ → Bullseye → Tried → Searched
+abbrev pub judged : ℕ → ℕ → Bullseye → Verified → Searched
 judged row column eye (Ok vertical) = passed row eye vertical
 judged row column eye (Err vertical) = failed column eye
 

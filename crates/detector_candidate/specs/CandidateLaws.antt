@@ -17,7 +17,7 @@ use Rattle.detector_widths.specs.WidthsF32.{valid_widths_f32}
 use Rattle.detector_first_window.specs.FirstWindowLaws.{Closed}
 use Rattle.detector_rows.specs.RowsLaws.{closed_on, same_rows_f32}
 use Rattle.detector_window.specs.declared.Bullseye.{Bullseye}
-use Rattle.detector_columns.specs.Columns.{Tried}
+use Rattle.detector_columns.specs.Columns.{Verified}
 use Rattle.detector_columns.specs.ColumnsLaws.{Bounded, EitherBounded, verified_bounded, same_vertical_f32}
 use Rattle.detector_candidate.specs.Candidate.{candidate_of, passed, failed, judged, judge_by, search_by}
 use Rattle.detector_candidate.specs.CandidateClauses.{Searchable, search_from}
@@ -139,7 +139,7 @@ unfolding search_by passed failed
 search_fit shape image row column limits at = on_bind image _ (closed_on shape row column image) judge_fit
   where
     judged_fit : {eye : Bullseye} → Closed shape image row column eye
-        → (tried : Tried) → EitherBounded shape.height tried → FitSearch shape image column (judged row column eye tried)
+        → (tried : Verified) → EitherBounded shape.height tried → FitSearch shape image column (judged row column eye tried)
     judged_fit closed (Ok vertical) bounded = record { onward = passed_onward closed vertical; fit = candidate_fit limits at closed bounded }
     judged_fit closed (Err vertical) _ = record { onward = failed_onward closed; fit = tt }
 

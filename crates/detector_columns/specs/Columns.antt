@@ -54,28 +54,28 @@ module _ (shape : Shape) (row : ℕ) where
     done (potential_bullseye_array down up)
 
 -- the runs of a column: `Ok` if they pass
-abbrev pub Tried : Type 0
-Tried = Result (List ℕ) (List ℕ)
+abbrev pub Verified : Type 0
+Verified = Result (List ℕ) (List ℕ)
 
 -- what has passed, or what comes later, by the runs that did not
-abbrev pub or_else : Tried → (List ℕ → Reads Tried) → Reads Tried
+abbrev pub or_else : Verified → (List ℕ → Reads Verified) → Reads Verified
 or_else (Ok runs) later = done (Ok runs)
 or_else (Err runs) later = later runs
 
 module _ (valid : List ℕ → Bool) (shape : Shape) (row : ℕ) where
   -- the check of one column
-  unfoldable pub try_column_by : ℕ → Reads Tried
+  unfoldable pub try_column_by : ℕ → Reads Verified
   try_column_by column = do
     buckets ← potential_bullseye shape row column
     done (cond (valid buckets) (Ok buckets) (Err buckets))
 
   -- columns one after the other, until one passes; `last` are the runs of the last one tried, which stand where none passes
-  unfoldable pub try_columns_by : List ℕ → List ℕ → Reads Tried
+  unfoldable pub try_columns_by : List ℕ → List ℕ → Reads Verified
   try_columns_by last [] = done (Err last)
   try_columns_by last (column ∷ columns) = do
     tried ← try_column_by column
     or_else tried (λ runs. try_columns_by runs columns)
 
   -- a column, then the next, then the one before
-  abbrev pub verify_bullseye_vertical_by : ℕ → Reads Tried
+  abbrev pub verify_bullseye_vertical_by : ℕ → Reads Verified
   verify_bullseye_vertical_by column = try_columns_by (replicate 11 0) (column ∷ (column + 1) ∷ (column - 1) ∷ [])

@@ -4,10 +4,10 @@ use Rattle.std.specs.Prelude.{ℕ}
 use Rattle.reads.specs.Reads.{Reads}
 use Rattle.bit_matrix.specs.declared.Shape.{Shape}
 use Rattle.detector_widths.specs.Widths.{valid_widths}
-use Rattle.detector_columns.specs.Columns.{Tried, try_column_by, verify_bullseye_vertical_by}
+use Rattle.detector_columns.specs.Columns.{Verified, try_column_by, verify_bullseye_vertical_by}
 
-abbrev pub try_column : Shape → ℕ → ℕ → Reads Tried
+abbrev pub try_column : Shape → ℕ → ℕ → Reads Verified
 try_column = try_column_by valid_widths
 
-abbrev pub verify_bullseye_vertical : Shape → ℕ → ℕ → Reads Tried
+abbrev pub verify_bullseye_vertical : Shape → ℕ → ℕ → Reads Verified
 verify_bullseye_vertical = verify_bullseye_vertical_by valid_widths

@@ -20,7 +20,7 @@ use Rattle.detector_columns.specs.Columns.{
   column_vector,
   potential_bullseye_array,
   potential_bullseye,
-  Tried,
+  Verified,
   or_else,
   try_column_by,
   try_columns_by,
@@ -116,7 +116,7 @@ bounded_widths : {height : ℕ} {buckets : List ℕ} → height ≤ 2048 → Bou
 bounded_widths {buckets = buckets} low bounded = same_widths buckets (omega (arith, bounded.evens)) (omega (arith, bounded.odds))
 
 -- of the runs of a column that passes, and of one that does not
-abbrev pub EitherBounded : ℕ → Tried → Type 0
+abbrev pub EitherBounded : ℕ → Verified → Type 0
 EitherBounded height tried = MatchResult tried (Bounded height) (Bounded height)
 
 module _ (shape : Shape) (row : ℕ) where
@@ -141,8 +141,8 @@ module _ (shape : Shape) (row : ℕ) where
   tries_bounded [] last bounded = always_done bounded
   tries_bounded (column ∷ columns) last _ = always_bind _ (try_bounded column) (next (tries_bounded columns))
     where
-      next : {later : List ℕ → Reads Tried} → ((runs : List ℕ) → Bounded shape.height runs → Always (EitherBounded shape.height) (later runs))
-          → (tried : Tried) → EitherBounded shape.height tried → Always (EitherBounded shape.height) (or_else tried later)
+      next : {later : List ℕ → Reads Verified} → ((runs : List ℕ) → Bounded shape.height runs → Always (EitherBounded shape.height) (later runs))
+          → (tried : Verified) → EitherBounded shape.height tried → Always (EitherBounded shape.height) (or_else tried later)
       next _ (Ok runs) bounded = always_done bounded
       next onward (Err runs) bounded = onward runs bounded
 
@@ -166,8 +166,8 @@ module _ (shape : Shape) (row : ℕ) where
   same_tries low [] last = same_refl
   same_tries low (column ∷ columns) last = same_after _ _ (same_try low column) (next (same_tries low columns))
     where
-      next : {later later' : List ℕ → Reads Tried} → ((runs : List ℕ) → Same (later runs) (later' runs))
-          → (tried : Tried) → Same (or_else tried later) (or_else tried later')
+      next : {later later' : List ℕ → Reads Verified} → ((runs : List ℕ) → Same (later runs) (later' runs))
+          → (tried : Verified) → Same (or_else tried later) (or_else tried later')
       next _ (Ok runs) = same_refl
       next onward (Err runs) = onward runs
 

@@ -7,18 +7,18 @@ use Rattle.bit_matrix.specs.Shape.{shape_of}
 use Rattle.bit_matrix.specs.Pixels.{pixel}
 use Rattle.detector_widths.specs.Widths.{even_runs_pass, odd_runs_pass, valid_widths}
 use Rattle.detector_widths.specs.Buckets.{bump}
-use Rattle.detector_columns.specs.Columns.{Tried, rows_left, vector_from, column_vector, potential_bullseye, try_column_by, try_columns_by}
+use Rattle.detector_columns.specs.Columns.{Verified, rows_left, vector_from, column_vector, potential_bullseye, try_column_by, try_columns_by}
 use Rattle.detector_columns.specs.ColumnsClauses.{verify_bullseye_vertical}
 
 -- twelve rows, black at column 1 in each second row
 abbrev stripes : List ℕ
 stripes = 2 ∷ 0 ∷ 2 ∷ 0 ∷ 2 ∷ 0 ∷ 2 ∷ 0 ∷ 2 ∷ 0 ∷ 2 ∷ 0 ∷ []
 
-abbrev verify_at : ℕ → Reads Tried
+abbrev verify_at : ℕ → Reads Verified
 verify_at column = verify_bullseye_vertical (shape_of 64 12) 6 column
 
 -- from the black pixel in row 6: run 5 is 0, and runs 4 and 6 both count row 6
-abbrev from_black : Tried
+abbrev from_black : Verified
 from_black = Ok (1 ∷ 1 ∷ 1 ∷ 1 ∷ 1 ∷ 0 ∷ 1 ∷ 1 ∷ 1 ∷ 1 ∷ 1 ∷ [])
 
 pub from_black_lem : value_of (verify_at 1) stripes ≡ from_black

@@ -9,7 +9,7 @@ use Rattle.detector_rows.specs.RowsClauses.{next_bullseye}
 use Rattle.detector_first_window.specs.FirstWindowLaws.{Closed}
 use Rattle.detector_rows.specs.RowsLaws.{closed_on}
 use Rattle.detector_window.specs.declared.Bullseye.{Bullseye}
-use Rattle.detector_columns.specs.Columns.{Tried}
+use Rattle.detector_columns.specs.Columns.{Verified}
 use Rattle.detector_columns.specs.ColumnsClauses.{verify_bullseye_vertical}
 use Rattle.detector_candidate.specs.Candidate.{nothing, judged, search_by}
 use Rattle.detector_candidate.specs.CandidateClauses.{Searchable, search_from}
@@ -37,7 +37,7 @@ module _ {image i₁ : BitMatrix} (row column : ℕ) where
       closing_fits : eye.center + eye.radius < 2 ^ 32
       closing_fits = omega (arith, image.is_image.limits.width_most, closed.before_limit)
 
-    looked : {tried : Tried} {i₂ : BitMatrix} {s : Searched} → RanOn (verify_bullseye_vertical i₁.shape row eye.center) i₁ tried i₂
+    looked : {tried : Verified} {i₂ : BitMatrix} {s : Searched} → RanOn (verify_bullseye_vertical i₁.shape row eye.center) i₁ tried i₂
         → s ≡ judged row column eye tried → RanOn (search_from image.shape row column) image s i₂
     unfolding search_by
     looked look made = on_bind _ run (on_bind _ (on_next (λ shape. verify_bullseye_vertical shape row eye.center) run.kept look) (on_is made))

@@ -6,7 +6,7 @@ use Rattle.bit_matrix.specs.declared.BitMatrix.{BitMatrix}
 use Rattle.bit_matrix.specs.ImageClauses.{RanOn}
 use Rattle.bit_matrix.proofs.ImageLaws.{kept_on, onto}
 use Rattle.detector_widths.specs.Widths.{valid_widths}
-use Rattle.detector_columns.specs.Columns.{Tried, or_else, try_columns_by}
+use Rattle.detector_columns.specs.Columns.{Verified, or_else, try_columns_by}
 use Rattle.detector_columns.specs.ColumnsClauses.{try_column, verify_bullseye_vertical}
 use Rattle.detector_columns.proofs.verify_bullseye_vertical.Invariants.{Trying}
 use Rattle.detector_columns.proofs.verify_bullseye_vertical.Goals as goal
@@ -14,7 +14,7 @@ use Rattle.detector_columns.proofs.verify_bullseye_vertical.Goals as goal
 -- at the i-th of the columns
 module _ {before image : BitMatrix} {row start : ℕ} {last : List ℕ} (columns : List ℕ) (i : ℕ) (more : i < length columns)
     (trying : Trying before row start image last (drop i columns)) where
-  turn : {after : BitMatrix} {tried : Tried} → RanOn (try_column image.shape row (get_or columns i 0)) image tried after
+  turn : {after : BitMatrix} {tried : Verified} → RanOn (try_column image.shape row (get_or columns i 0)) image tried after
       → Resumes before.words.now (or_else tried (λ runs. try_columns_by valid_widths before.shape row runs (drop (i + 1) columns))) after.marks.now
       (verify_bullseye_vertical before.shape row start) before.marks.now
   unfolding try_columns_by
