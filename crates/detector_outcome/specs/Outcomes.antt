@@ -35,6 +35,14 @@ if_outcome turned none lost ellipse Ellipse = ellipse
 abbrev pub outcome_number : Outcome → ℕ
 outcome_number outcome = if_outcome (λ rotation. 1) 0 2 3 outcome
 
+-- the degree of the turn, 0 without one
+abbrev pub degree_of : Turn → ℕ
+degree_of turn = if_outcome (λ rotation. turn.degree) 0 0 0 turn.outcome
+
+-- the word for the scale: the one that turned or lost the centre, 0 without one
+abbrev pub scale_of : Turn → ℕ
+scale_of turn = if_outcome (λ rotation. turn.scale) 0 turn.scale 0 turn.outcome
+
 -- the word for the rotation
 abbrev pub rotation_bits : Outcome → ℕ
 rotation_bits outcome = if_outcome (to_bits binary32) 0 0 0 outcome

@@ -5,7 +5,7 @@ use Rattle.std.proofs.Common.{arith}
 use Rattle.detector_outcome.specs.declared.Outcome.{Outcome}
 use Rattle.detector_outcome.specs.declared.Outcome.TheVariants.{Turned, NoTurn, LostCentre, Ellipse}
 use Rattle.detector_outcome.specs.declared.Turn.{Turn}
-use Rattle.detector_outcome.specs.Outcomes.{if_outcome, outcome_number, quarter_of, class_of}
+use Rattle.detector_outcome.specs.Outcomes.{if_outcome, outcome_number, degree_of, quarter_of, class_of}
 
 pub quarter_low : (degree : ℕ) → quarter_of degree < 4
 unfolding quarter_of
@@ -36,3 +36,15 @@ class_by_outcome turn = by turn.outcome
     by NoTurn = classed_without 0 turn.degree (λ e. omega arith)
     by LostCentre = classed_without 2 turn.degree (λ e. omega arith)
     by Ellipse = classed_without 3 turn.degree (λ e. omega arith)
+
+-- ---- what `class_of` asks
+
+-- a turn whose degree is low meets it, whatever its outcome
+pub degree_le : (turn : Turn) → degree_of turn ≤ turn.degree
+degree_le turn = by turn.outcome
+  where
+    by : (outcome : Outcome) → if_outcome (λ rotation. turn.degree) 0 0 0 outcome ≤ turn.degree
+    by (Turned rotation) = omega arith
+    by NoTurn = omega arith
+    by LostCentre = omega arith
+    by Ellipse = omega arith

@@ -2,7 +2,7 @@
 #![tactic(auto)]
 
 ghost use Rattle.std.specs.Prelude.{◌≡◌, ◌<◌};
-ghost use Rattle.detector_outcome.specs.Outcomes.{outcome_number, rotation_bits, class_number, quarter_of, class_of};
+ghost use Rattle.detector_outcome.specs.Outcomes.{outcome_number, degree_of, scale_of, rotation_bits, class_number, quarter_of, class_of};
 
 use rxing_result_point::PointU;
 
@@ -50,6 +50,18 @@ pub struct Turn {
     pub center: PointU,
 }
 
+impl Turn {
+    // The word for the scale in a record: the one that turned or lost the centre, 0 without one.
+    pub fn scale(self) -> u32
+        ensures { result ≡ scale_of self }
+    {
+        match self.outcome {
+            Outcome::Turned(_) | Outcome::LostCentre => self.scale,
+            Outcome::NoTurn | Outcome::Ellipse => 0,
+        }
+    }
+}
+
 // The handling class: a turn in quarters, to the nearest, or that there is none. By the word for it in a record.
 #[derive(Clone, Copy)]
 pub enum Class {
@@ -82,13 +94,68 @@ pub fn quarter_of(degree: u32) -> Class
     }
 }
 
-// The class of a symbol.
+// The class of a symbol. Without a turn no degree is looked at.
 pub fn class_of(turn: Turn) -> Class
-    requires { turn.degree < 360 }
+    requires { degree_of turn < 360 }
     ensures { class_number result ≡ class_of turn }
 {
     match turn.outcome {
         Outcome::Turned(_) => quarter_of(turn.degree),
         Outcome::NoTurn | Outcome::LostCentre | Outcome::Ellipse => Class::WithoutTurn,
+    }
+}
+
+#[cfg(test)]
+mod tests {
+    use super::*;
+
+    const TURNED: Turn = Turn {
+        outcome: Outcome::Turned(90.0),
+        degree: 90,
+        scale: 5,
+        center: PointU { x: 17, y: 23 },
+    };
+
+    #[test]
+    fn turned(rt: HostRuntime) {
+        assert_eq!(rt; TURNED.scale(), 5);
+        assert_eq!(rt; u32::from(class_of(TURNED)), 1);
+    }
+
+    // Here and below 400, a degree that no turn has, is not looked at.
+    #[test]
+    fn not_turned(rt: HostRuntime) {
+        let outcome = Outcome::NoTurn;
+        let turn = Turn {
+            outcome,
+            degree: 400,
+            ..TURNED
+        };
+        assert_eq!(rt; turn.scale(), 0);
+        assert_eq!(rt; u32::from(class_of(turn)), 4);
+    }
+
+    #[test]
+    fn lost_centre(rt: HostRuntime) {
+        let outcome = Outcome::LostCentre;
+        let turn = Turn {
+            outcome,
+            degree: 400,
+            ..TURNED
+        };
+        assert_eq!(rt; turn.scale(), 5);
+        assert_eq!(rt; u32::from(class_of(turn)), 4);
+    }
+
+    #[test]
+    fn ellipse(rt: HostRuntime) {
+        let outcome = Outcome::Ellipse;
+        let turn = Turn {
+            outcome,
+            degree: 400,
+            ..TURNED
+        };
+        assert_eq!(rt; turn.scale(), 0);
+        assert_eq!(rt; u32::from(class_of(turn)), 4);
     }
 }

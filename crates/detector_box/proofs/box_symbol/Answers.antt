@@ -12,7 +12,8 @@ use Rattle.detector_boundary.specs.BoundaryClauses.{Placed}
 use Rattle.detector_circle.specs.declared.Circle.{Circle}
 use Rattle.detector_outcome.specs.declared.Turn.{Turn}
 use Rattle.detector_outcome.specs.declared.Class.{Class}
-use Rattle.detector_outcome.specs.Outcomes.{class_of, class_number}
+use Rattle.detector_outcome.specs.Outcomes.{degree_of, class_of, class_number}
+use Rattle.detector_outcome.specs.OutcomesLaws.{degree_le}
 use Rattle.detector_turn.specs.ScalesClauses.{InsideCircle}
 use Rattle.detector_box.specs.Boxes.{turn_at, symbol_at}
 use Rattle.detector_box.specs.BoxesLaws.{turn_ended}
@@ -24,10 +25,10 @@ module _ {i₀ i₁ : BitMatrix} (circle : Circle) (ellipse : Bool) {turn : Turn
   placed here e =
       rw (e, run.kept.shape) (plain_placed (record { limits = i₀.is_image.limits; inside = here.inside }) here.least here.most)
 
-  low : InsideCircle i₀.shape circle → turn.degree < 360
+  low : InsideCircle i₀.shape circle → degree_of turn < 360
   low here =
       let ended = always_ran (turn_ended ellipse i₀.shape circle here.inside) run.ran in
-      omega (arith, ended.low)
+      omega (arith, ended.low, degree_le turn)
 
   boxed : (class : Class) {b : Boundary} {corners : List Point} {word : ℕ} → b ≡ plain_boundary i₁.shape circle.center circle.radius
       → corners ≡ corners_of b turn → class_number class ≡ class_of turn → word ≡ class_number class
