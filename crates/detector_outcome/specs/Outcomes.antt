@@ -39,7 +39,7 @@ outcome_number outcome = if_outcome (λ rotation. 1) 0 2 3 outcome
 abbrev pub degree_of : Turn → ℕ
 degree_of turn = if_outcome (λ rotation. turn.degree) 0 0 0 turn.outcome
 
--- the word for the scale: the one that turned or lost the centre, 0 without one
+-- the scale that turned or lost the centre, 0 without one
 abbrev pub scale_of : Turn → ℕ
 scale_of turn = if_outcome (λ rotation. turn.scale) 0 turn.scale 0 turn.outcome
 

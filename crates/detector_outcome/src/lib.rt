@@ -51,7 +51,7 @@ pub struct Turn {
 }
 
 impl Turn {
-    // The word for the scale in a record: the one that turned or lost the centre, 0 without one.
+    // The scale that turned or lost the centre, 0 without one. Of every turn that a search comes to it is the field: `scale_word` (detector_turn).
     pub fn scale(self) -> u32
         ensures { result ≡ scale_of self }
     {
@@ -109,53 +109,36 @@ pub fn class_of(turn: Turn) -> Class
 mod tests {
     use super::*;
 
-    const TURNED: Turn = Turn {
-        outcome: Outcome::Turned(90.0),
-        degree: 90,
-        scale: 5,
-        center: PointU { x: 17, y: 23 },
-    };
-
-    #[test]
-    fn turned(rt: HostRuntime) {
-        assert_eq!(rt; TURNED.scale(), 5);
-        assert_eq!(rt; u32::from(class_of(TURNED)), 1);
-    }
-
-    // Here and below 400, a degree that no turn has, is not looked at.
-    #[test]
-    fn not_turned(rt: HostRuntime) {
-        let outcome = Outcome::NoTurn;
-        let turn = Turn {
+    // That outcome beside a scale, and beside a degree that no turn has: where there is none, neither is looked at.
+    fn beside(outcome: Outcome, degree: u32) -> Turn
+        ensures { (result.outcome ≡ outcome) × (result.degree ≡ degree) }
+    {
+        let center = PointU { x: 17, y: 23 };
+        Turn {
             outcome,
-            degree: 400,
-            ..TURNED
-        };
-        assert_eq!(rt; turn.scale(), 0);
-        assert_eq!(rt; u32::from(class_of(turn)), 4);
+            degree,
+            scale: 5,
+            center,
+        }
     }
 
     #[test]
-    fn lost_centre(rt: HostRuntime) {
-        let outcome = Outcome::LostCentre;
-        let turn = Turn {
-            outcome,
-            degree: 400,
-            ..TURNED
-        };
-        assert_eq!(rt; turn.scale(), 5);
-        assert_eq!(rt; u32::from(class_of(turn)), 4);
+    fn scales(rt: HostRuntime) {
+        assert_eq!(rt; beside(Outcome::Turned(90.0), 90).scale(), 5);
+        assert_eq!(rt; beside(Outcome::LostCentre, 400).scale(), 5);
+        assert_eq!(rt; beside(Outcome::NoTurn, 400).scale(), 0);
+        assert_eq!(rt; beside(Outcome::Ellipse, 400).scale(), 0);
     }
 
     #[test]
-    fn ellipse(rt: HostRuntime) {
-        let outcome = Outcome::Ellipse;
-        let turn = Turn {
-            outcome,
-            degree: 400,
-            ..TURNED
-        };
-        assert_eq!(rt; turn.scale(), 0);
-        assert_eq!(rt; u32::from(class_of(turn)), 4);
+    fn classes(rt: HostRuntime) {
+        let turned = class_of(beside(Outcome::Turned(90.0), 90));
+        let lost = class_of(beside(Outcome::LostCentre, 400));
+        let not_turned = class_of(beside(Outcome::NoTurn, 400));
+        let ellipse = class_of(beside(Outcome::Ellipse, 400));
+        assert_eq!(rt; u32::from(turned), 1);
+        assert_eq!(rt; u32::from(lost), 4);
+        assert_eq!(rt; u32::from(not_turned), 4);
+        assert_eq!(rt; u32::from(ellipse), 4);
     }
 }

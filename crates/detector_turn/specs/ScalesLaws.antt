@@ -22,8 +22,10 @@ use Rattle.detector_points.specs.PointsLaws.{points_by_boundary}
 use Rattle.detector_circle.specs.declared.Circle.{Circle}
 use Rattle.detector_degrees.specs.Degrees.{if_rotation, try_degrees}
 use Rattle.detector_degrees.specs.DegreesLaws.{Tried, tried, degrees_by_angle}
+use Rattle.detector_outcome.specs.declared.Outcome.{Outcome}
+use Rattle.detector_outcome.specs.declared.Outcome.TheVariants.{Turned, NoTurn, LostCentre, Ellipse}
 use Rattle.detector_outcome.specs.declared.Turn.{Turn}
-use Rattle.detector_outcome.specs.Outcomes.{if_outcome, rotation_bits, turned_by}
+use Rattle.detector_outcome.specs.Outcomes.{if_outcome, scale_of, rotation_bits, turned_by}
 use Rattle.detector_turn.specs.Scales.{accepted_scales, accepted_scale, is_outside, attempt_rotation_box, scales_from, try_scales}
 use Rattle.detector_turn.specs.SourceScales.{attempt_at_each_point}
 use Rattle.detector_turn.specs.ScalesClauses.{LentCircle}
@@ -37,6 +39,16 @@ pub record Ended (shape : Shape) (turn : Turn) : Type 0 where
   pub scale_least : if_outcome (λ r. 1) 0 1 0 turn.outcome ≤ turn.scale
   pub scale_most : turn.scale ≤ if_outcome (λ r. 5) 0 5 0 turn.outcome
   pub inside : Inside shape turn.center.x turn.center.y
+
+-- then the scale beside the outcome, which a record has, is the one that turned or lost the centre, and 0 without
+pub scale_word : {shape : Shape} (turn : Turn) → Ended shape turn → scale_of turn ≡ turn.scale
+scale_word turn e = by turn.outcome e.scale_most
+  where
+    by : (outcome : Outcome) → turn.scale ≤ if_outcome (λ r. 5) 0 5 0 outcome → if_outcome (λ rotation. turn.scale) 0 turn.scale 0 outcome ≡ turn.scale
+    by (Turned rotation) most = refl
+    by NoTurn most = omega (arith, most)
+    by LostCentre most = refl
+    by Ellipse most = omega (arith, most)
 
 neither : (a b : Bool) → (a || b) ≡ false → (a ≡ false) × (b ≡ false)
 neither true b e = absurd (true≢false e)
