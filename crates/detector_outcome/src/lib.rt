@@ -109,7 +109,7 @@ pub fn class_of(turn: Turn) -> Class
 mod tests {
     use super::*;
 
-    // That outcome beside a scale, and beside a degree that no turn has: where there is none, neither is looked at.
+    // A turn with that outcome and degree, and scale 5. 400 is a degree that no turn has: without a turn it is not looked at.
     fn beside(outcome: Outcome, degree: u32) -> Turn
         ensures { (result.outcome ≡ outcome) × (result.degree ≡ degree) }
     {

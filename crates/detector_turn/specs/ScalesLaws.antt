@@ -40,7 +40,7 @@ pub record Ended (shape : Shape) (turn : Turn) : Type 0 where
   pub scale_most : turn.scale ≤ if_outcome (λ r. 5) 0 5 0 turn.outcome
   pub inside : Inside shape turn.center.x turn.center.y
 
--- then the scale beside the outcome, which a record has, is the one that turned or lost the centre, and 0 without
+-- then the scale beside the outcome is the one that turned or lost the centre, and 0 without
 pub scale_word : {shape : Shape} (turn : Turn) → Ended shape turn → scale_of turn ≡ turn.scale
 scale_word turn e = by turn.outcome e.scale_most
   where
